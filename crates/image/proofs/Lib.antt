@@ -1,0 +1,6 @@
+pub mod Loops
+pub mod Naming
+pub mod Tests
+pub mod Learned
+pub mod Lookup
+pub mod Readings

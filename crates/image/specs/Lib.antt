@@ -1,0 +1,9 @@
+pub mod Names
+pub mod Bytes
+pub mod Reading
+pub mod Tables
+pub mod Kept
+pub mod Scans
+pub mod View
+pub mod Learning
+pub mod Shown

@@ -1,0 +1,21 @@
+// The image of a deps log, Ninja's version 4: reading and writing its records, and the table that good records give.
+mod cause;
+mod entries;
+mod entry;
+mod filled;
+mod name;
+mod names;
+mod reader;
+mod records;
+mod table;
+mod tables;
+mod words;
+
+pub use cause::Cause;
+pub use entry::DepsEntry;
+pub use filled::Filled;
+pub use name::Name;
+pub use records::Deps;
+pub use records::Read;
+pub use reader::read_record;
+pub use table::DepsTable;

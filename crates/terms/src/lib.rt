@@ -1,0 +1,53 @@
+// What every layer shares: a value with its offset, a place in some bytes, a found entry, and the refusals.
+ghost use mathlib.Core.Path.{_≡_};
+ghost use Rattle.terms.specs.Refusals.{numberOf, placeOf};
+
+// A value with the offset where it stands; of a text, with its line.
+#[derive(Clone, Copy, PartialEq, Eq, Debug)]
+pub struct At<T> {
+    pub offset: usize,
+    pub value: T,
+}
+
+// Where a name stands in some bytes.
+#[derive(Clone, Copy, PartialEq, Eq, Debug)]
+pub struct Place {
+    pub start: usize,
+    pub length: usize,
+}
+
+// An output's entry as it was found: its index, by which its inputs can be asked for, and its mtime.
+#[derive(Clone, Copy, PartialEq, Eq, Debug)]
+pub struct Found {
+    pub index: usize,
+    pub mtime: u64,
+}
+
+// Why a call is refused.
+#[derive(Clone, Copy, PartialEq, Eq, Debug)]
+pub enum Refusal {
+    // The image is not empty and does not begin with the header.
+    NoHeader,
+    // The record at this offset is over a limit.
+    OverLimit(usize),
+}
+
+impl Refusal {
+    pub fn number(self) -> u8
+        ensures { λ n. ⌜ n ≡ numberOf self ⌝ }
+    {
+        match self {
+            Refusal::NoHeader => 5,
+            Refusal::OverLimit(_) => 6,
+        }
+    }
+
+    pub fn place(self) -> usize
+        ensures { λ n. ⌜ n ≡ placeOf self ⌝ }
+    {
+        match self {
+            Refusal::NoHeader => 0,
+            Refusal::OverLimit(offset) => offset,
+        }
+    }
+}

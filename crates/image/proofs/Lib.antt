@@ -4,3 +4,5 @@ pub mod Tests
 pub mod Learned
 pub mod Lookup
 pub mod Readings
+pub mod Told
+pub mod Fills

@@ -17,10 +17,14 @@ use Rattle.terms.specs.Lists.{placeFrom}
 use Rattle.image.specs.declared.name.Name.{Name}
 use Rattle.image.specs.View.{text}
 
-pub same-from : (r : Bool) (xs ys : List ℕ) → Decides r (xs ≡ ys) → sameBytes ys xs ≡ r
-same-from true xs ys d = sameBytes-decides ys xs .1 (sym (d .0 refl))
-same-from false xs ys d =
-    elim (cases-bool (sameBytes ys xs)) [ inl t ↦ absurd (both-ways false refl (d .1 (sym (sameBytes-decides ys xs .0 t)))) | inr f ↦ f ]
+-- a test that decides whether two names are equal is the comparison of their bytes
+pub decided : (r : Bool) (xs ys : List ℕ) → Decides r (xs ≡ ys) → sameBytes xs ys ≡ r
+decided true xs ys d = sameBytes-decides xs ys .1 (d .0 refl)
+decided false xs ys d =
+    elim (cases-bool (sameBytes xs ys)) [ inl t ↦ absurd (both-ways false refl (d .1 (sameBytes-decides xs ys .0 t))) | inr f ↦ f ]
+
+turned : (r : Bool) (xs ys : List ℕ) → Decides r (xs ≡ ys) → Decides r (ys ≡ xs)
+turned r xs ys d = (λ t. sym (d .0 t), λ e. d .1 (sym e))
 
 -- the name at an index
 pub text-at : (names items : List Name) (i : ℕ) (n : Name) → items ≡ names → i < length items → n ≡ getD items i n → getD (map text names) i [] ≡ text n
@@ -37,4 +41,4 @@ place-past i p ns h e = at-drop-more (placeFrom i p) ns i [] h ∙ cond-false (p
 pub asked-at : (names items : List Name) (i : ℕ) (n : Name) (bytes name : List ℕ) (r : Bool) → items ≡ names → i < length items → n ≡ getD items i n → bytes ≡ text n →
   Decides r (bytes ≡ name) → sameBytes name (getD (map text names) i []) ≡ r
 asked-at names items i n bytes name r e h g b d =
-    ap (sameBytes name) (text-at names items i n e h g ∙ sym b) ∙ same-from r bytes name d
+    ap (sameBytes name) (text-at names items i n e h g ∙ sym b) ∙ decided r name bytes (turned r bytes name d)

@@ -1,16 +1,16 @@
 -- The steps of the loops over bytes. Assumes nothing.
 use mathlib.Core.Path.{_≡_, refl, sym, ap, _∙_}
 use mathlib.Core.Bool.{Bool, true, false, cond, _&&_, _||_}
-use mathlib.Core.List.{List, [], _∷_}
+use mathlib.Core.List.{List, [], _∷_, _++_}
 use Prim.Native.Nat.{ℕ, zero, suc, _+_, _-_, _*_, _/_, _<_, _≤_}
 use native.Mathlib.Nat.{add-zero}
 use native.Mathlib.Omega.{arith}
 use lib.Dec.{eqb, ltb}
 use lib.ListN.{length, getD, take, drop}
 use lib.Seq.{getD-drop}
-use Rattle.std.proofs.shelf.Lists.{at-drop-more, at-drop-all, drop-drop, take-take, length-take-le, getD-take, getD-default, getD-past, nil-from-length}
+use Rattle.std.proofs.shelf.Lists.{append-assoc, at-drop-more, at-drop-all, drop-drop, take-take, length-take-le, getD-take, getD-default, getD-past, nil-from-length}
 use Rattle.std.proofs.shelf.Tests.{eq-eqb, ne-eqb, le-ltb, lt-ltb, or-left, and-left, cond-true, cond-false}
-use Rattle.terms.specs.Lists.{every, some}
+use Rattle.terms.specs.Lists.{every, some, _▷_}
 use Rattle.image.specs.Names.{holdsZero}
 use Rattle.image.specs.Reading.{wordAt, wordsOf, trimmed}
 
@@ -71,3 +71,13 @@ words-next n k xs h =
 pub every-words : (p : ℕ → Bool) (n k : ℕ) (xs : List ℕ) → k < n →
   every p (wordsOf (n - k) (drop (4 * k) xs)) ≡ (p (wordAt xs (4 * k)) && every p (wordsOf (n - (k + 1)) (drop (4 * (k + 1)) xs)))
 every-words p n k xs h = ap (every p) (words-next n k xs h)
+
+pub length-wordsOf : (n : ℕ) (xs : List ℕ) → length (wordsOf n xs) ≡ n
+length-wordsOf zero xs = refl
+length-wordsOf (suc n) xs = ap suc (length-wordsOf n (drop 4 xs))
+
+-- one word more is gathered
+pub words-gathered : (n k : ℕ) (xs ws : List ℕ) → k < n → ws ++ wordsOf (n - k) (drop (4 * k) xs) ≡ wordsOf n xs →
+  (ws ▷ wordAt xs (4 * k)) ++ wordsOf (n - (k + 1)) (drop (4 * (k + 1)) xs) ≡ wordsOf n xs
+words-gathered n k xs ws h e =
+    append-assoc ws (wordAt xs (4 * k) ∷ []) (wordsOf (n - (k + 1)) (drop (4 * (k + 1)) xs)) ∙ ap (λ (ys : List ℕ). ws ++ ys) (sym (words-next n k xs h)) ∙ e

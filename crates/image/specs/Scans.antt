@@ -80,5 +80,9 @@ abbrev pub fillFrom : ℕ → Option ℕ → Scan → Result Filled Refusal × T
 fillFrom n (Some offset) s = (Err (OverLimit offset), bare)
 fillFrom n None s = (Ok (record { records = n + length (s .records); length = s .past; tail = s .tail }), s .table)
 
+-- the same, `id` being the next id at its first record
+abbrev pub fillBy : ℕ → ℕ → Scan → Result Filled Refusal × Table
+fillBy n id s = fillFrom n (firstOver id (s .records)) s
+
 abbrev pub filled : List ℕ → Result Filled Refusal × Table
-filled live = cond (hasHeader (imageOf live)) (fillFrom 0 (overLimit live) (scanned live)) (Err NoHeader, bare)
+filled live = cond (hasHeader (imageOf live)) (fillBy 0 0 (scanned live)) (Err NoHeader, bare)

@@ -1,23 +1,29 @@
 -- What the reader's answer says. Assumes nothing.
+use mathlib.Core.List.{List}
 use mathlib.Core.Path.{_≡_}
 use Prim.Native.Nat.{ℕ, _+_, _/_, _≤_}
 use lib.ListN.{length}
 use denote.Ref.{now}
 use Rattle.image.specs.declared.records.Read.{Read}
-use Rattle.image.specs.declared.records.Read.the-variants.{Path, Deps, Bad, End}
+use Rattle.image.specs.declared.records.Read.the-variants.{Path, Deps as Depends, Bad, End}
+use Rattle.image.specs.declared.records.Deps.{Deps}
 use Rattle.image.specs.Bytes.{path, deps}
 use Rattle.image.specs.Reading.{Reading, good, bad, end, wordsOf}
 
+-- the inputs' ids of a deps record
+abbrev pub idsOf : Deps → List ℕ
+idsOf d = wordsOf (length (now (d .ids)) / 4) (now (d .ids))
+
 abbrev pub shown : Read → Reading
 shown (Path p) = good (path (now (p .value)))
-shown (Deps d) = good (deps (d .value .output) (d .value .mtime) (wordsOf (length (now (d .value .ids)) / 4) (now (d .value .ids))))
+shown (Depends d) = good (deps (d .value .output) (d .value .mtime) (idsOf (d .value)))
 shown (Bad c) = bad c
 shown End = end
 
 -- the offset that a record is handed out with; a bad one and the end have the one that was asked
 abbrev pub offsetOf : ℕ → Read → ℕ
 offsetOf at (Path p) = p .offset
-offsetOf at (Deps d) = d .offset
+offsetOf at (Depends d) = d .offset
 offsetOf at (Bad c) = at
 offsetOf at End = at
 

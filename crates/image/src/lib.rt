@@ -2,6 +2,7 @@
 mod cause;
 mod entries;
 mod entry;
+mod fill;
 mod filled;
 mod name;
 mod names;

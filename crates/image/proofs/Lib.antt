@@ -6,3 +6,4 @@ pub mod Lookup
 pub mod Readings
 pub mod Told
 pub mod Fills
+pub mod Writes

@@ -7,3 +7,4 @@ pub mod Scans
 pub mod View
 pub mod Learning
 pub mod Shown
+pub mod Written

@@ -25,10 +25,9 @@ use super::records::Deps;
 use super::records::Read;
 use super::table::DepsTable;
 use super::words::word_at;
+use super::writer::HEADER;
 use terms::At;
 use terms::Refusal;
-
-const HEADER: [u8; 16] = *b"# ninjadeps\n\x04\0\0\0";
 
 impl<'a> Deps<'a> {
     // The record's mtime and ids as an entry, where it has at most 64 inputs.

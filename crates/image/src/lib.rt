@@ -11,6 +11,7 @@ mod records;
 mod table;
 mod tables;
 mod words;
+mod writer;
 
 pub use cause::Cause;
 pub use entry::DepsEntry;
@@ -20,3 +21,7 @@ pub use records::Deps;
 pub use records::Read;
 pub use reader::read_record;
 pub use table::DepsTable;
+pub use writer::TooShort;
+pub use writer::write_deps;
+pub use writer::write_header;
+pub use writer::write_path;

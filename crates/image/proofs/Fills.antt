@@ -27,11 +27,11 @@ use Rattle.image.specs.Scans.{Scan, found, stopped, scan, isOver, firstOver, f
 -- One step of the scan -----------------------------------------------------------------------------------------------------
 
 pub scan-good : (f : ℕ) (image : List ℕ) (t : Table) (at : ℕ) (r : Record) → readFront (t .names) (drop at image) ≡ good r →
-  scan (suc f) image t at ≡ found at r (scan f image (learn t r) (nextOffset image at (good r)))
+    scan (suc f) image t at ≡ found at r (scan f image (learn t r) (nextOffset image at (good r)))
 scan-good f image t at r e = rw (e, scan)
 
 pub scan-bad : (f : ℕ) (image : List ℕ) (t : Table) (at : ℕ) (c : Cause) → readFront (t .names) (drop at image) ≡ bad c →
-  scan (suc f) image t at ≡ stopped t at (Some (record { offset = at; value = c }))
+    scan (suc f) image t at ≡ stopped t at (Some (record { offset = at; value = c }))
 scan-bad f image t at c e = rw (e, scan)
 
 pub scan-end : (f : ℕ) (image : List ℕ) (t : Table) (at : ℕ) → readFront (t .names) (drop at image) ≡ end → scan (suc f) image t at ≡ stopped t at None
@@ -50,7 +50,7 @@ one-more n None at r s =
     ap F (omega arith)
 
 pub fill-good : (n f : ℕ) (image : List ℕ) (t : Table) (at : ℕ) (r : Record) → readFront (t .names) (drop at image) ≡ good r → isOver (length (t .names)) r ≡ false →
-  fillBy n (length (t .names)) (scan (suc f) image t at) ≡ fillBy (n + 1) (length (learn t r .names)) (scan f image (learn t r) (nextOffset image at (good r)))
+    fillBy n (length (t .names)) (scan (suc f) image t at) ≡ fillBy (n + 1) (length (learn t r .names)) (scan f image (learn t r) (nextOffset image at (good r)))
 fill-good n f image t at r e o =
     let s : Scan = scan f image (learn t r) (nextOffset image at (good r)) in
     ap (fillBy n (length (t .names))) (scan-good f image t at r e) ∙
@@ -59,14 +59,14 @@ fill-good n f image t at r e o =
     ap (λ (id : ℕ). fillBy (n + 1) id s) (next-id t r)
 
 pub fill-over : (n f : ℕ) (image : List ℕ) (t : Table) (at : ℕ) (r : Record) → readFront (t .names) (drop at image) ≡ good r → isOver (length (t .names)) r ≡ true →
-  fillBy n (length (t .names)) (scan (suc f) image t at) ≡ (Err (OverLimit at), bare)
+    fillBy n (length (t .names)) (scan (suc f) image t at) ≡ (Err (OverLimit at), bare)
 fill-over n f image t at r e o =
     let s : Scan = scan f image (learn t r) (nextOffset image at (good r)) in
     ap (fillBy n (length (t .names))) (scan-good f image t at r e) ∙
     ap (λ (x : Option ℕ). fillFrom n x (found at r s)) (cond-true (isOver (length (t .names)) r) (Some at) (firstOver (nextId (length (t .names)) r) (s .records)) o)
 
 pub fill-stop : (n id f : ℕ) (image : List ℕ) (t : Table) (at : ℕ) (tail : Option (At Cause)) → scan (suc f) image t at ≡ stopped t at tail →
-  fillBy n id (scan (suc f) image t at) ≡ (Ok (record { records = n; length = at; tail = tail }), t)
+    fillBy n id (scan (suc f) image t at) ≡ (Ok (record { records = n; length = at; tail = tail }), t)
 fill-stop n id f image t at tail e =
     let F : ℕ → Result Filled Refusal × Table = λ k. (Ok (record { records = k; length = at; tail = tail }), t) in
     ap (fillBy n id) e ∙ ap F (omega arith)
@@ -75,7 +75,7 @@ fill-stop n id f image t at tail e =
 
 -- what the reader's answer says of the image
 pub read-is : (known : List (List ℕ)) (image : List ℕ) (at : ℕ) (x y : Reading) (n : ℕ) → (x, n) ≡ readAt known image at → x ≡ y →
-  (readFront known (drop at image) ≡ y) × (n ≡ nextOffset image at y)
+    (readFront known (drop at image) ≡ y) × (n ≡ nextOffset image at y)
 read-is known image at x y n e f =
     let a : readFront known (drop at image) ≡ y = sym (ap (λ (p : Reading × ℕ). p .0) e) ∙ f in
     (a, ap (λ (p : Reading × ℕ). p .1) e ∙ ap (nextOffset image at) a)
@@ -96,8 +96,8 @@ one-less : (n l : ℕ) → n < l → l - n ≡ suc (l - (n + 1))
 one-less n l h = omega arith
 
 pub step-on : (n : ℕ) (image : List ℕ) (t u : Table) (at next : ℕ) (r : Record) (taken : Bool) (answer : Answer) → (readFront (t .names) (drop at image) ≡ good r) × (next ≡ nextOffset image at (good r)) →
-  Taken t r taken u → taken ≡ true → n < length image → fillBy n (length (t .names)) (scan (length image - n) image t at) ≡ answer →
-  fillBy (n + 1) (length (u .names)) (scan (length image - (n + 1)) image u next) ≡ answer
+    Taken t r taken u → taken ≡ true → n < length image → fillBy n (length (t .names)) (scan (length image - n) image t at) ≡ answer →
+    fillBy (n + 1) (length (u .names)) (scan (length image - (n + 1)) image u next) ≡ answer
 step-on n image t u at next r taken answer e k b h inv =
     let f : ℕ = length image - (n + 1) in
     let o : isOver (length (t .names)) r ≡ false = not-true (isOver (length (t .names)) r) (sym (k .limit) ∙ b) in
@@ -108,14 +108,14 @@ step-on n image t u at next r taken answer e k b h inv =
     ap (λ (g : ℕ). fillBy n (length (t .names)) (scan g image t at)) (sym (one-less n (length image) h)) ∙ inv
 
 pub step-over : (n : ℕ) (image : List ℕ) (t u : Table) (at next : ℕ) (r : Record) (taken : Bool) (answer : Answer) → (readFront (t .names) (drop at image) ≡ good r) × (next ≡ nextOffset image at (good r)) →
-  Taken t r taken u → taken ≡ false → n < length image → fillBy n (length (t .names)) (scan (length image - n) image t at) ≡ answer → (Err (OverLimit at), bare) ≡ answer
+    Taken t r taken u → taken ≡ false → n < length image → fillBy n (length (t .names)) (scan (length image - n) image t at) ≡ answer → (Err (OverLimit at), bare) ≡ answer
 step-over n image t u at next r taken answer e k b h inv =
     let f : ℕ = length image - (n + 1) in
     let o : isOver (length (t .names)) r ≡ true = not-false (isOver (length (t .names)) r) (sym (k .limit) ∙ b) in
     sym (fill-over n f image t at r (e .0) o) ∙ ap (λ (g : ℕ). fillBy n (length (t .names)) (scan g image t at)) (sym (one-less n (length image) h)) ∙ inv
 
 pub step-stop : (n : ℕ) (image : List ℕ) (t : Table) (at : ℕ) (tail : Option (At Cause)) (answer : Answer) → ((f : ℕ) → scan (suc f) image t at ≡ stopped t at tail) →
-  n < length image → fillBy n (length (t .names)) (scan (length image - n) image t at) ≡ answer → (Ok (record { records = n; length = at; tail = tail }), t) ≡ answer
+    n < length image → fillBy n (length (t .names)) (scan (length image - n) image t at) ≡ answer → (Ok (record { records = n; length = at; tail = tail }), t) ≡ answer
 step-stop n image t at tail answer e h inv =
     let f : ℕ = length image - (n + 1) in
     sym (fill-stop n (length (t .names)) f image t at tail (e f)) ∙ ap (λ (g : ℕ). fillBy n (length (t .names)) (scan g image t at)) (sym (one-less n (length image) h)) ∙ inv

@@ -66,7 +66,7 @@ view-kept t =
       named = all-named (vec-items (t .names));
       apart = t .apart;
       paired = entries-long t ∙ t .paired ∙ sym n;
-      fitting = ap (λ (k : ℕ). every (fitsEntry k) (view t .entries)) n ∙ t .fitting
+      fitting = ap (λ (k : ℕ). every (fitsEntry k) (view t .entries)) n ∙ t .fitting;
     }
 
 -- one more element, seen through a function
@@ -93,10 +93,10 @@ path-full t name h =
 pub path-known : (t : Table) (name : List ℕ) → isIn name (t .names) ≡ true → (false, t) ≡ pathLearned t name
 path-known t name h =
     path-refused t name (and-left (isName name && not (isIn name (t .names))) (ltb (length (t .names)) 256)
-      (and-right (isName name) (not (isIn name (t .names))) (not-from-true (isIn name (t .names)) h)))
+    (and-right (isName name) (not (isIn name (t .names))) (not-from-true (isIn name (t .names)) h)))
 
 pub path-taken : (t : Table) (name : List ℕ) → isName name ≡ true → isIn name (t .names) ≡ false → length (t .names) < 256 → (true, learn t (path name)) ≡ pathLearned t name
 path-taken t name n u h =
     sym (cond-true (takesPath t name) (true, learn t (path name)) (false, t)
-      (and-from (isName name && not (isIn name (t .names))) (ltb (length (t .names)) 256)
-        (and-from (isName name) (not (isIn name (t .names))) n (not-from-false (isIn name (t .names)) u)) (lt-ltb (length (t .names)) 256 h)))
+    (and-from (isName name && not (isIn name (t .names))) (ltb (length (t .names)) 256)
+    (and-from (isName name) (not (isIn name (t .names))) n (not-from-false (isIn name (t .names)) u)) (lt-ltb (length (t .names)) 256 h)))

@@ -7,3 +7,7 @@ pub mod Readings
 pub mod Told
 pub mod Fills
 pub mod Writes
+pub mod Word
+pub mod Back
+pub mod WholeImage
+pub mod Lawful

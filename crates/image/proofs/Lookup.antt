@@ -39,6 +39,6 @@ place-past i p ns h e = at-drop-more (placeFrom i p) ns i [] h ∙ cond-false (p
 
 -- whether the name at an index is the one that is asked for
 pub asked-at : (names items : List Name) (i : ℕ) (n : Name) (bytes name : List ℕ) (r : Bool) → items ≡ names → i < length items → n ≡ getD items i n → bytes ≡ text n →
-  Decides r (bytes ≡ name) → sameBytes name (getD (map text names) i []) ≡ r
+    Decides r (bytes ≡ name) → sameBytes name (getD (map text names) i []) ≡ r
 asked-at names items i n bytes name r e h g b d =
     ap (sameBytes name) (text-at names items i n e h g ∙ sym b) ∙ decided r name bytes (turned r bytes name d)

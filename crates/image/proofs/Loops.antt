@@ -46,7 +46,7 @@ pub trimmed-other : (m n : ℕ) (xs : List ℕ) → 0 < n → n ≤ length xs �
 trimmed-other zero n xs q h e = refl
 trimmed-other (suc m) n xs q h e =
     let z : eqb (getD (take n xs) (length (take n xs) - 1) 1) 0 ≡ false =
-      ne-eqb (getD (take n xs) (length (take n xs) - 1) 1) 0 (λ y. e (sym (last-of xs n 1 q h) ∙ y)) in
+    ne-eqb (getD (take n xs) (length (take n xs) - 1) 1) 0 (λ y. e (sym (last-of xs n 1 q h) ∙ y)) in
     cond-false (eqb (getD (take n xs) (length (take n xs) - 1) 1) 0) (trimmed m (take (length (take n xs) - 1) (take n xs))) (take n xs) z
 
 pub trimmed-nil : (m : ℕ) → trimmed m [] ≡ []
@@ -60,7 +60,7 @@ wordAt-drop xs i = simp (getD-drop, add-zero)
 
 -- the words from the k-th on
 pub words-next : (n k : ℕ) (xs : List ℕ) → k < n →
-  wordsOf (n - k) (drop (4 * k) xs) ≡ wordAt xs (4 * k) ∷ wordsOf (n - (k + 1)) (drop (4 * (k + 1)) xs)
+    wordsOf (n - k) (drop (4 * k) xs) ≡ wordAt xs (4 * k) ∷ wordsOf (n - (k + 1)) (drop (4 * (k + 1)) xs)
 words-next n k xs h =
     let e : n - k ≡ suc (n - (k + 1)) = omega arith in
     let d : drop 4 (drop (4 * k) xs) ≡ drop (4 * (k + 1)) xs = drop-drop 4 (4 * k) xs ∙ ap (λ (j : ℕ). drop j xs) (omega arith) in
@@ -69,7 +69,7 @@ words-next n k xs h =
     ap (λ (ys : List ℕ). wordAt xs (4 * k) ∷ wordsOf (n - (k + 1)) ys) d
 
 pub every-words : (p : ℕ → Bool) (n k : ℕ) (xs : List ℕ) → k < n →
-  every p (wordsOf (n - k) (drop (4 * k) xs)) ≡ (p (wordAt xs (4 * k)) && every p (wordsOf (n - (k + 1)) (drop (4 * (k + 1)) xs)))
+    every p (wordsOf (n - k) (drop (4 * k) xs)) ≡ (p (wordAt xs (4 * k)) && every p (wordsOf (n - (k + 1)) (drop (4 * (k + 1)) xs)))
 every-words p n k xs h = ap (every p) (words-next n k xs h)
 
 pub length-wordsOf : (n : ℕ) (xs : List ℕ) → length (wordsOf n xs) ≡ n
@@ -78,6 +78,6 @@ length-wordsOf (suc n) xs = ap suc (length-wordsOf n (drop 4 xs))
 
 -- one word more is gathered
 pub words-gathered : (n k : ℕ) (xs ws : List ℕ) → k < n → ws ++ wordsOf (n - k) (drop (4 * k) xs) ≡ wordsOf n xs →
-  (ws ▷ wordAt xs (4 * k)) ++ wordsOf (n - (k + 1)) (drop (4 * (k + 1)) xs) ≡ wordsOf n xs
+    (ws ▷ wordAt xs (4 * k)) ++ wordsOf (n - (k + 1)) (drop (4 * (k + 1)) xs) ≡ wordsOf n xs
 words-gathered n k xs ws h e =
     append-assoc ws (wordAt xs (4 * k) ∷ []) (wordsOf (n - (k + 1)) (drop (4 * (k + 1)) xs)) ∙ ap (λ (ys : List ℕ). ws ++ ys) (sym (words-next n k xs h)) ∙ e

@@ -24,7 +24,7 @@ pub part-is : (n : ℕ) (xs : List ℕ) → take (n - 0) xs ≡ take n xs
 part-is n xs = ap (λ (k : ℕ). take k xs) (omega arith)
 
 pub name-part : (body : List ℕ) (n : ℕ) → take n (take (length body - 4 - 0) body) ≡ unpadded (take (length body - 4 - 0) body) →
-  take (n - 0) (take (length body - 4 - 0) body) ≡ unpadded (take (length body - 4) body)
+    take (n - 0) (take (length body - 4 - 0) body) ≡ unpadded (take (length body - 4) body)
 name-part body n e = part-is n (take (length body - 4 - 0) body) ∙ e ∙ ap unpadded (part-is (length body - 4) body)
 
 -- whether a name is known, by its place
@@ -32,18 +32,18 @@ pub known-by : (name : List ℕ) (known : List (List ℕ)) (b : Bool) → b ≡ 
 known-by name known b e = sym (place-in 0 (sameBytes name) known) ∙ sym e
 
 read-name : (known : List (List ℕ)) (body name : List ℕ) → name ≡ unpadded (take (length body - 4) body) → wordAt body (length body - 4) ≡ checksum (length known) →
-  readPath known body ≡ readName known name
+    readPath known body ≡ readName known name
 read-name known body name e w =
     cond-true (eqb (wordAt body (length body - 4)) (checksum (length known))) (readName known (unpadded (take (length body - 4) body))) (bad BadChecksum)
-      (eq-eqb (wordAt body (length body - 4)) (checksum (length known)) w) ∙
+    (eq-eqb (wordAt body (length body - 4)) (checksum (length known)) w) ∙
     ap (readName known) (sym e)
 
 pub name-bad : (known : List (List ℕ)) (body name : List ℕ) → name ≡ unpadded (take (length body - 4) body) → wordAt body (length body - 4) ≡ checksum (length known) →
-  (holdsZero name || isIn name known) ≡ true → bad BadName ≡ readPath known body
+    (holdsZero name || isIn name known) ≡ true → bad BadName ≡ readPath known body
 name-bad known body name e w h = sym (read-name known body name e w ∙ cond-true (holdsZero name || isIn name known) (bad BadName) (good (path name)) h)
 
 pub name-good : (known : List (List ℕ)) (body name : List ℕ) → name ≡ unpadded (take (length body - 4) body) → wordAt body (length body - 4) ≡ checksum (length known) →
-  (holdsZero name || isIn name known) ≡ false → good (path name) ≡ readPath known body
+    (holdsZero name || isIn name known) ≡ false → good (path name) ≡ readPath known body
 name-good known body name e w h = sym (read-name known body name e w ∙ cond-false (holdsZero name || isIn name known) (bad BadName) (good (path name)) h)
 
 -- Deps -------------------------------------------------------------------------------------------------------------------
@@ -60,12 +60,12 @@ made-is known body o m xs eo em ex =
     ap (λ (a : ℕ). made known a m xs) eo ∙ ap (λ (b : ℕ). made known (wordAt body 0) b xs) em ∙ ap (made known (wordAt body 0) (longAt body 4)) ex
 
 pub deps-unknown : (known : List (List ℕ)) (body : List ℕ) (o m : ℕ) (xs : List ℕ) → o ≡ wordAt body 0 → m ≡ longAt body 4 → xs ≡ drop 12 body →
-  every (isKnown known) (o ∷ idsOf xs) ≡ false → bad UnknownId ≡ readDeps known body
+    every (isKnown known) (o ∷ idsOf xs) ≡ false → bad UnknownId ≡ readDeps known body
 deps-unknown known body o m xs eo em ex h =
     sym (cond-false (every (isKnown known) (o ∷ idsOf xs)) (good (deps o m (idsOf xs))) (bad UnknownId) h) ∙ made-is known body o m xs eo em ex
 
 pub deps-known : (known : List (List ℕ)) (body : List ℕ) (o m : ℕ) (xs : List ℕ) → o ≡ wordAt body 0 → m ≡ longAt body 4 → xs ≡ drop 12 body →
-  every (isKnown known) (o ∷ idsOf xs) ≡ true → good (deps o m (idsOf xs)) ≡ readDeps known body
+    every (isKnown known) (o ∷ idsOf xs) ≡ true → good (deps o m (idsOf xs)) ≡ readDeps known body
 deps-known known body o m xs eo em ex h =
     sym (cond-true (every (isKnown known) (o ∷ idsOf xs)) (good (deps o m (idsOf xs))) (bad UnknownId) h) ∙ made-is known body o m xs eo em ex
 
@@ -91,20 +91,20 @@ pub some-least : (w : ℕ) → oddSize w ≡ false → 8 ≤ sizeOf w
 some-least w o = elim (cases-lt w 2147483648) [ inl h ↦ path-least w o h | inr h ↦ omega (arith, deps-least w o h) ]
 
 pub body-even : (known : List (List ℕ)) (w : ℕ) (rest : List ℕ) → sizeOf w ≤ length rest →
-  readBody known w rest ≡ cond (oddSize w) (bad BadSize) (cond (isDeps w) (readDeps known (take (sizeOf w) rest)) (readPath known (take (sizeOf w) rest)))
+    readBody known w rest ≡ cond (oddSize w) (bad BadSize) (cond (isDeps w) (readDeps known (take (sizeOf w) rest)) (readPath known (take (sizeOf w) rest)))
 body-even known w rest h = cond-false (ltb (length rest) (sizeOf w)) (bad TooLong) _ (le-ltb (length rest) (sizeOf w) h)
 
 pub body-odd : (known : List (List ℕ)) (w : ℕ) (rest : List ℕ) → sizeOf w ≤ length rest → oddSize w ≡ true → bad BadSize ≡ readBody known w rest
 body-odd known w rest h o = sym (body-even known w rest h ∙ cond-true (oddSize w) (bad BadSize) _ o)
 
 pub body-deps : (known : List (List ℕ)) (w : ℕ) (rest : List ℕ) → sizeOf w ≤ length rest → oddSize w ≡ false → 2147483648 ≤ w →
-  readDeps known (take (sizeOf w - 0) rest) ≡ readBody known w rest
+    readDeps known (take (sizeOf w - 0) rest) ≡ readBody known w rest
 body-deps known w rest h o d =
     ap (readDeps known) (part-is (sizeOf w) rest) ∙
     sym (body-even known w rest h ∙ cond-false (oddSize w) (bad BadSize) _ o ∙ cond-true (isDeps w) _ (readPath known (take (sizeOf w) rest)) (le-leb 2147483648 w d))
 
 pub body-path : (known : List (List ℕ)) (w : ℕ) (rest : List ℕ) → sizeOf w ≤ length rest → oddSize w ≡ false → w < 2147483648 →
-  readPath known (take (sizeOf w - 0) rest) ≡ readBody known w rest
+    readPath known (take (sizeOf w - 0) rest) ≡ readBody known w rest
 body-path known w rest h o d =
     ap (readPath known) (part-is (sizeOf w) rest) ∙
     sym (body-even known w rest h ∙ cond-false (oddSize w) (bad BadSize) _ o ∙ cond-false (isDeps w) (readDeps known (take (sizeOf w) rest)) _ (lt-leb 2147483648 w d))
@@ -135,9 +135,9 @@ body-good known w rest g =
     elim (cases-lt (length rest) (sizeOf w)) [
       | inl h ↦ absurd (false≢true (ap isGood (sym (cond-true (ltb (length rest) (sizeOf w)) (bad TooLong) _ (lt-ltb (length rest) (sizeOf w) h))) ∙ g))
       | inr h ↦ elim (cases-bool (oddSize w)) [
-          | inl o ↦ absurd (false≢true (ap isGood (body-odd known w rest h o) ∙ g))
-          | inr o ↦ (h, some-least w o)
-        ]
+        | inl o ↦ absurd (false≢true (ap isGood (body-odd known w rest h o) ∙ g))
+        | inr o ↦ (h, some-least w o)
+      ]
     ]
 
 pub front-good : (known : List (List ℕ)) (xs : List ℕ) → isGood (readFront known xs) ≡ true → (4 ≤ length xs) × (4 + sizeOf (wordAt xs 0) ≤ length xs) × (8 ≤ sizeOf (wordAt xs 0))
@@ -157,7 +157,7 @@ answers known image at x n e f = ap (λ (m : ℕ). (x, m)) f ∙ ap (λ (y : Rea
 
 -- what was read of the bytes from an offset on, by the code's own parts
 pub read-front : (known : List (List ℕ)) (image : List ℕ) (at head : ℕ) (front behind : List ℕ) (x : Reading) → front ≡ drop at image → head ≡ wordAt front 0 → behind ≡ drop 4 front →
-  4 ≤ length front → x ≡ readBody known head behind → x ≡ readFront known (drop at image)
+    4 ≤ length front → x ≡ readBody known head behind → x ≡ readFront known (drop at image)
 read-front known image at head front behind x f h b l e =
     e ∙ ap (λ (w : ℕ). readBody known w behind) h ∙ ap (readBody known (wordAt front 0)) b ∙ sym (front-word known front l) ∙ ap (readFront known) f
 

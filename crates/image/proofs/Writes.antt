@@ -31,7 +31,7 @@ fronted-more front old buf next bytes at f a e =
     let n : ℕ = length front in
     let t : take n buf ≡ front = ap (take n) f ∙ take-at front (drop n old) n refl in
     let d : drop (n + length bytes) buf ≡ drop (length (front ++ bytes)) old =
-      ap (drop (n + length bytes)) f ∙ drop-past front (drop n old) (length bytes) ∙ drop-drop (length bytes) n old ∙ ap (λ (k : ℕ). drop k old) (sym (length-append front bytes)) in
+    ap (drop (n + length bytes)) f ∙ drop-past front (drop n old) (length bytes) ∙ drop-drop (length bytes) n old ∙ ap (λ (k : ℕ). drop k old) (sym (length-append front bytes)) in
     e ∙ ap (λ (k : ℕ). overwritten k bytes buf) a ∙
     ap (λ (xs : List ℕ). xs ++ (bytes ++ drop (n + length bytes) buf)) t ∙
     ap (λ (ys : List ℕ). front ++ (bytes ++ ys)) d ∙
@@ -80,8 +80,8 @@ wrote-none old = record { fronted = refl; place = refl }
 pub wrote-more : (front old buf next bytes piece : List ℕ) (at r : ℕ) → Wrote front old buf at → bytes ≡ piece → next ≡ overwritten at bytes buf → r ≡ at + length bytes → Wrote (front ++ piece) old next r
 wrote-more front old buf next bytes piece at r w b e n = record {
   fronted = fronted-more front old buf next piece at (w .fronted) (w .place) (e ∙ ap (λ (xs : List ℕ). overwritten at xs buf) b);
-  place = n ∙ ap (λ (k : ℕ). k + length bytes) (w .place) ∙ ap (λ (xs : List ℕ). length front + length xs) b ∙ sym (length-append front piece)
-  }
+  place = n ∙ ap (λ (k : ℕ). k + length bytes) (w .place) ∙ ap (λ (xs : List ℕ). length front + length xs) b ∙ sym (length-append front piece);
+}
 
 -- all of it is written
 pub all-written : (front bytes old buf : List ℕ) (n : ℕ) → Wrote front old buf n → front ≡ bytes → length front ≤ length old → (Ok n, buf) ≡ written bytes old
@@ -100,7 +100,7 @@ zeros-are n h = ap (λ (k : ℕ). take {A = ℕ} k (0 ∷ 0 ∷ 0 ∷ [])) (omeg
 
 -- the pieces of a path record, each in its turn
 pub path-pieces : (id : ℕ) (name zeros : List ℕ) (w c : ℕ) → zeros ≡ replicate (padding (length name)) 0 → w ≡ length (padded name) + 4 → c ≡ checksum id →
-  ((word w ++ name) ++ zeros) ++ word c ≡ recordBytes id (path name)
+    ((word w ++ name) ++ zeros) ++ word c ≡ recordBytes id (path name)
 path-pieces id name zeros w c z e f =
     ap (λ (k : ℕ). ((word k ++ name) ++ zeros) ++ word c) e ∙
     ap (λ (k : ℕ). ((word (length (padded name) + 4) ++ name) ++ zeros) ++ word k) f ∙

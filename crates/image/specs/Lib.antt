@@ -8,3 +8,4 @@ pub mod View
 pub mod Learning
 pub mod Shown
 pub mod Written
+pub mod Laws

@@ -1,5 +1,6 @@
 // Why a record is bad.
 ghost use mathlib.Core.Path.{_≡_};
+ghost use Rattle.image.specs.Reading.{causeNumber};
 
 #[derive(Clone, Copy, PartialEq, Eq, Debug)]
 pub enum Cause {
@@ -15,4 +16,19 @@ pub enum Cause {
     BadName,
     // An id is not known yet.
     UnknownId,
+}
+
+impl Cause {
+    pub fn number(self) -> u8
+        ensures { λ n. ⌜ n ≡ causeNumber self ⌝ }
+    {
+        match self {
+            Cause::NoWord => 1,
+            Cause::TooLong => 2,
+            Cause::BadSize => 3,
+            Cause::BadChecksum => 4,
+            Cause::BadName => 5,
+            Cause::UnknownId => 6,
+        }
+    }
 }

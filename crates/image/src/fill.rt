@@ -17,6 +17,7 @@ ghost use Rattle.image.specs.Scans.{isOver, scan, fillBy, filled};
 ghost use Rattle.image.specs.View.{entryOf};
 ghost use Rattle.image.specs.Learning.{view};
 ghost use Rattle.image.specs.Shown.{idsOf};
+ghost use Rattle.image.specs.Laws.{FillsWritten};
 use super::entry::DepsEntry;
 use super::filled::Filled;
 use super::name::Name;
@@ -130,6 +131,7 @@ impl DepsTable {
     pub fn fill(&mut self, image: &[u8]) -> Result<Filled, Refusal>
         ensures value { λ r. ⌜ (r, view (now (self .exit))) ≡ filled (now (image .entry)) ⌝ }
         ensures kept { λ _. ⌜ Kept (view (now (self .exit))) ⌝ }
+        ensures written { λ r. ⌜ FillsWritten (now (image .entry)) r (view (now (self .exit))) ⌝ }
     {
         self.clear();
         if image.is_empty() {

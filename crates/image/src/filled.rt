@@ -1,8 +1,8 @@
 // What filling a table from an image found.
 use super::cause::Cause;
-use terms::At;
 use crate::cause::CauseDebug;
 use crate::cause::CausePartialEq;
+use terms::At;
 use terms::AtDebug;
 use terms::AtPartialEq;
 

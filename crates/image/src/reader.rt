@@ -5,6 +5,7 @@ ghost use lib.ListN.{length};
 ghost use Rattle.image.specs.Reading.{readPath, readDeps, oddSize, readBody, readAt};
 ghost use Rattle.image.specs.Learning.{view};
 ghost use Rattle.image.specs.Shown.{shown, offsetOf, Leads};
+ghost use Rattle.image.specs.Laws.{ReadsBack, ReadsTorn};
 use super::cause::Cause;
 use super::records::Deps;
 use super::records::Read;
@@ -85,11 +86,14 @@ fn read_body<'a>(head: u32, rest: &'a [u8], at: usize, known: &DepsTable) -> Rea
     }
 }
 
-// What stands at an offset of the image, given the names that are known, and the offset of the next record.
+// What stands at an offset of the image, given the names that are known, and the offset of the next record. A written record is read back as
+// itself; of one that is cut nothing is taken for good; and nothing is read past the image.
 pub fn read_record<'a>(image: &'a [u8], at: usize, known: &DepsTable) -> (Read<'a>, usize)
     ensures value { λ r. ⌜ (shown (r .0), r .1) ≡ readAt (view (now (known .entry)) .names) (now (image .entry)) at ⌝ }
     ensures offset { λ r. ⌜ offsetOf at (r .0) ≡ at ⌝ }
     ensures leads { λ r. ⌜ Leads (shown (r .0)) at (r .1) (length (now (image .entry))) ⌝ }
+    ensures back { λ r. ⌜ ReadsBack (view (now (known .entry)) .names) (now (image .entry)) at (shown (r .0)) (r .1) ⌝ }
+    ensures torn { λ r. ⌜ ReadsTorn (view (now (known .entry)) .names) (now (image .entry)) at (shown (r .0)) ⌝ }
 {
     if at >= image.len() {
         return (Read::End, at);

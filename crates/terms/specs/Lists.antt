@@ -28,7 +28,6 @@ abbrev pub _▷_ : {A : Type 0} → List A → A → List A
 xs ▷ x = xs ++ x ∷ []
 
 infixl 64 _▷_
-
 -- the place of the first member for which the test holds, the places counting from i on
 abbrev pub placeFrom : {A : Type 0} → ℕ → (A → Bool) → List A → Option ℕ
 placeFrom i p [] = None

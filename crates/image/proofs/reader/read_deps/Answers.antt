@@ -21,12 +21,12 @@ returns-then-output-count c =
     let o = c .word-at-output .result in
     record {
       value = deps-unknown known body o (c .long-at-mtime .result) ids (c .word-at-output .ensures) (c .long-at-mtime .ensures) (take-rest body 12)
-        (elim (c .then-output-count .came) [
-          | then-output-count·by·then-output-count w ↦ and-left (isKnown known o) (every (isKnown known) (wordsOf (length ids / 4) ids)) (le-ltb o (length known) (omega (arith, c .path-count-count .ensures .count, w .if-output-count .taken)))
-          | then-output-count·by·else-output-count·then-not-all-below w ↦ and-right (isKnown known o) (every (isKnown known) (wordsOf (length ids / 4) ids))
-            (counted known (c .path-count-count .result) (wordsOf (length ids / 4) ids) false (c .path-count-count .ensures .count) (w .if-not-all-below .ensures tt))
-        ]);
-      offset = refl
+          (elim (c .then-output-count .came) [
+            | then-output-count·by·then-output-count w ↦ and-left (isKnown known o) (every (isKnown known) (wordsOf (length ids / 4) ids)) (le-ltb o (length known) (omega (arith, c .path-count-count .ensures .count, w .if-output-count .taken)))
+            | then-output-count·by·else-output-count·then-not-all-below w ↦ and-right (isKnown known o) (every (isKnown known) (wordsOf (length ids / 4) ids))
+                (counted known (c .path-count-count .result) (wordsOf (length ids / 4) ids) false (c .path-count-count .ensures .count) (w .if-not-all-below .ensures tt))
+          ]);
+      offset = refl;
     }
 
 pub returns : need.returns
@@ -37,7 +37,7 @@ returns c =
     let o = c .word-at-output .result in
     record {
       value = deps-known known body o (c .long-at-mtime .result) ids (c .word-at-output .ensures) (c .long-at-mtime .ensures) (take-rest body 12)
-        (and-from (isKnown known o) (every (isKnown known) (wordsOf (length ids / 4) ids)) (lt-ltb o (length known) (omega (arith, c .path-count-count .ensures .count, c .if-output-count .left)))
+          (and-from (isKnown known o) (every (isKnown known) (wordsOf (length ids / 4) ids)) (lt-ltb o (length known) (omega (arith, c .path-count-count .ensures .count, c .if-output-count .left)))
           (counted known (c .path-count-count .result) (wordsOf (length ids / 4) ids) true (c .path-count-count .ensures .count) (c .if-not-all-below .ensures tt)));
-      offset = refl
+      offset = refl;
     }

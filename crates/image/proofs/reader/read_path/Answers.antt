@@ -20,11 +20,11 @@ returns-then-has-zero c =
     let part = name-part body (c .trimmed-len .result) (c .trimmed-len .ensures .bytes) in
     record {
       value = name-bad known body name part (omega (arith, c .word-at .ensures, c .path-count .ensures .count))
-        (elim (c .then-has-zero .came) [
-          | then-has-zero·by·then-has-zero w ↦ or-left (holdsZero name) (isIn name known) (sym (w .if-has-zero .ensures tt))
-          | then-has-zero·by·else-has-zero·then-is-some w ↦ or-right (holdsZero name) (isIn name known) (known-by name known true (w .if-is-some .ensures tt ∙ ap isSome (w .id-of .ensures)))
-        ]);
-      offset = refl
+          (elim (c .then-has-zero .came) [
+            | then-has-zero·by·then-has-zero w ↦ or-left (holdsZero name) (isIn name known) (sym (w .if-has-zero .ensures tt))
+            | then-has-zero·by·else-has-zero·then-is-some w ↦ or-right (holdsZero name) (isIn name known) (known-by name known true (w .if-is-some .ensures tt ∙ ap isSome (w .id-of .ensures)))
+          ]);
+      offset = refl;
     }
 
 pub returns : need.returns
@@ -35,6 +35,6 @@ returns c =
     let part = name-part body (c .trimmed-len .result) (c .trimmed-len .ensures .bytes) in
     record {
       value = name-good known body name part (omega (arith, c .word-at .ensures, c .path-count .ensures .count))
-        (or-from (holdsZero name) (isIn name known) (sym (c .if-has-zero .ensures tt)) (known-by name known false (c .if-is-some .ensures tt ∙ ap isSome (c .id-of .ensures))));
-      offset = refl
+          (or-from (holdsZero name) (isIn name known) (sym (c .if-has-zero .ensures tt)) (known-by name known false (c .if-is-some .ensures tt ∙ ap isSome (c .id-of .ensures))));
+      offset = refl;
     }

@@ -18,13 +18,13 @@ loop-left-again c =
 pub returns-else-bytes-len-eq0 : need.returns-else-bytes-len-eq0
 returns-else-bytes-len-eq0 c = record {
   within = c .loop-left .inv .0;
-  bytes = sym (trimmed-other (c .loop-left .left) (c .loop-left .len) (c .args .bytes .now) (c .if-len-gt0 .taken) (c .loop-left .inv .0) (c .if-bytes-len-eq0 .left)) ∙ c .loop-left .inv .1
-  }
+  bytes = sym (trimmed-other (c .loop-left .left) (c .loop-left .len) (c .args .bytes .now) (c .if-len-gt0 .taken) (c .loop-left .inv .0) (c .if-bytes-len-eq0 .left)) ∙ c .loop-left .inv .1;
+}
 
 pub returns-else-len-gt0 : need.returns-else-len-gt0
 returns-else-len-gt0 c =
     let e : c .loop-left .len ≡ 0 = omega (arith, c .if-len-gt0 .left) in
     record {
       within = c .loop-left .inv .0;
-      bytes = ap (λ (n : ℕ). take n (c .args .bytes .now)) e ∙ sym (ap (λ (n : ℕ). trimmed (c .loop-left .left) (take n (c .args .bytes .now))) e ∙ trimmed-nil (c .loop-left .left)) ∙ c .loop-left .inv .1
+      bytes = ap (λ (n : ℕ). take n (c .args .bytes .now)) e ∙ sym (ap (λ (n : ℕ). trimmed (c .loop-left .left) (take n (c .args .bytes .now))) e ∙ trimmed-nil (c .loop-left .left)) ∙ c .loop-left .inv .1;
     }

@@ -28,10 +28,11 @@ loop-id-again c =
     let n : c .loop-id .end ≡ length front = omega (arith, l, t, length-append (take at old) (words (take i ids)), length-words (take i ids), c .loop-id .inv .0) in
     let more : words (take i ids) ++ word (getD ids i 0) ≡ words (take (i + 1) ids) = sym (ap words (take-more ids i 0 (omega arith)) ∙ words-push (take i ids) (getD ids i 0)) in
     let e : front ++ c .to-le-bytes .result ≡ take at old ++ words (take (i + 1) ids) =
-      ap (λ (xs : List ℕ). front ++ xs) (c .to-le-bytes .ensures) ∙ append-assoc (take at old) (words (take i ids)) (word (getD ids i 0)) ∙ ap (λ (xs : List ℕ). take at old ++ xs) more in
-    (omega (arith, c .put-end .ensures .place, ap length (c .to-le-bytes .ensures), c .loop-id .inv .0),
+    ap (λ (xs : List ℕ). front ++ xs) (c .to-le-bytes .ensures) ∙ append-assoc (take at old) (words (take i ids)) (word (getD ids i 0)) ∙ ap (λ (xs : List ℕ). take at old ++ xs) more in (
+      omega (arith, c .put-end .ensures .place, ap length (c .to-le-bytes .ensures), c .loop-id .inv .0),
       fronted-more front old (c .loop-id .buf) (c .put-end .last .buf) (c .to-le-bytes .result) (c .loop-id .end) (c .loop-id .inv .1) n (c .put-end .ensures .after) ∙
-      ap (λ (f : List ℕ). f ++ drop (length f) old) e)
+          ap (λ (f : List ℕ). f ++ drop (length f) old) e,
+    )
 
 pub returns : need.returns
 returns c =
@@ -45,5 +46,5 @@ returns c =
     record {
       place = omega (arith, c .loop-id .inv .0, c .loop-id-test .left, c .loop-id .kept .id-index-end);
       after = c .loop-id .inv .1 ∙ ap (λ (xs : List ℕ). (take at old ++ words xs) ++ drop (length (take at old ++ words xs)) old) a ∙
-        ap (λ (k : ℕ). (take at old ++ words ids) ++ drop k old) n ∙ append-assoc (take at old) (words ids) (drop (at + length (words ids)) old)
+          ap (λ (k : ℕ). (take at old ++ words ids) ++ drop k old) n ∙ append-assoc (take at old) (words ids) (drop (at + length (words ids)) old);
     }

@@ -25,8 +25,8 @@ returns c =
     let s1 = wrote-more [] old old (c .put-at .last .buf) (c .to-le-bytes .result) (word w) 0 (c .put-at .result) (wrote-none old) (c .to-le-bytes .ensures ∙ h) (c .put-at .ensures .after) (c .put-at .ensures .place) in
     let s2 = wrote-more (word w) old (c .put-at .last .buf) (c .put-at-2 .last .buf) (c .to-le-bytes-2 .result) (word o) (c .put-at .result) (c .put-at-2 .result) s1 (c .to-le-bytes-2 .ensures) (c .put-at-2 .ensures .after) (c .put-at-2 .ensures .place) in
     let s3 = wrote-more (word w ++ word o) old (c .put-at-2 .last .buf) (c .put-at-3 .last .buf) (c .to-le-bytes-3 .result) (long (e .mtime)) (c .put-at-2 .result) (c .put-at-3 .result) s2
-      (c .to-le-bytes-3 .ensures ∙ long-is (c .mtime .result) ∙ ap long (c .mtime .ensures)) (c .put-at-3 .ensures .after) (c .put-at-3 .ensures .place) in
+    (c .to-le-bytes-3 .ensures ∙ long-is (c .mtime .result) ∙ ap long (c .mtime .ensures)) (c .put-at-3 .ensures .after) (c .put-at-3 .ensures .place) in
     let s4 = wrote-more ((word w ++ word o) ++ long (e .mtime)) old (c .put-at-3 .last .buf) (c .put-words .last .buf) (words (c .inputs-inputs .result .now)) (words (e .inputs)) (c .put-at-3 .result) (c .put-words .result) s3
-      (ap words (c .inputs-inputs .ensures .ids)) (c .put-words .ensures .after) (omega (arith, c .put-words .ensures .place, length-words (c .inputs-inputs .result .now))) in
+    (ap words (c .inputs-inputs .ensures .ids)) (c .put-words .ensures .after) (omega (arith, c .put-words .ensures .place, length-words (c .inputs-inputs .result .now))) in
     all-written (((word w ++ word o) ++ long (e .mtime)) ++ words (e .inputs)) (recordBytes 0 (deps o (e .mtime) (e .inputs))) old (c .put-words .last .buf) (c .put-words .result) s4 refl
     (omega (arith, c .if-buf-size .left, length-deps o (e .mtime) (e .inputs), n))

@@ -27,9 +27,9 @@ returns c =
     let s1 = wrote-more [] old old (c .put-at .last .buf) (c .to-le-bytes .result) (word w) 0 (c .put-at .result) (wrote-none old) (c .to-le-bytes .ensures ∙ ap word e) (c .put-at .ensures .after) (c .put-at .ensures .place) in
     let s2 = wrote-more (word w) old (c .put-at .last .buf) (c .put-at-2 .last .buf) (c .as-bytes-bytes .result .now) name (c .put-at .result) (c .put-at-2 .result) s1 (c .as-bytes-bytes .ensures .bytes) (c .put-at-2 .ensures .after) (c .put-at-2 .ensures .place) in
     let s3 = wrote-more (word w ++ name) old (c .put-at-2 .last .buf) (c .put-at-3 .last .buf) _ zeros (c .put-at-2 .result) (c .put-at-3 .result) s2
-      (zeros-are (c .padding-of-zeros .result) (omega (arith, c .padding-of-zeros .ensures)) ∙ ap (λ (k : ℕ). replicate k 0) z) (c .put-at-3 .ensures .after) (c .put-at-3 .ensures .place) in
+    (zeros-are (c .padding-of-zeros .result) (omega (arith, c .padding-of-zeros .ensures)) ∙ ap (λ (k : ℕ). replicate k 0) z) (c .put-at-3 .ensures .after) (c .put-at-3 .ensures .place) in
     let s4 = wrote-more ((word w ++ name) ++ zeros) old (c .put-at-3 .last .buf) (c .put .last .buf) (c .to-le-bytes-2 .result) (word (checksum (c .args .id))) (c .put-at-3 .result) (c .put .result) s3
-      (c .to-le-bytes-2 .ensures) (c .put .ensures .after) (c .put .ensures .place) in
+    (c .to-le-bytes-2 .ensures) (c .put .ensures .after) (c .put .ensures .place) in
     let p = path-pieces (c .args .id) name zeros w (checksum (c .args .id)) refl refl refl in
     all-written (((word w ++ name) ++ zeros) ++ word (checksum (c .args .id))) (recordBytes (c .args .id) (path name)) old (c .put .last .buf) (c .put .result) s4 p
     (omega (arith, c .if-buf-size .left, ap length p, length-path (c .args .id) name, n, z))

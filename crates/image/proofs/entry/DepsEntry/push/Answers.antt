@@ -15,5 +15,5 @@ returns c =
     let F : List ℕ → Entry = λ xs. record { mtime = t .mtime; inputs = xs } in
     record {
       room = sym (lt-ltb (length (take (t .count) (t .ids))) 64 (omega arith));
-      after = ap F (take-more-set (t .ids) (t .count) (c .args .id) (omega (arith, t .few, t .long)))
+      after = ap F (take-more-set (t .ids) (t .count) (c .args .id) (omega (arith, t .few, t .long)));
     }

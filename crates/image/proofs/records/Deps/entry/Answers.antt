@@ -33,9 +33,11 @@ returns-then-count-gt64 c =
 pub loop-k-holds : need.loop-k-holds
 loop-k-holds c =
     let ids = c .args .self .now .ids .now in
-    let i = ap inputsOf (c .new-gathered .ensures) in
-    (ap mtimeOf (c .new-gathered .ensures), ap length i,
-      ap (λ (xs : List ℕ). xs ++ wordsOf (length ids / 4 - 0) ids) i ∙ ap (λ (n : ℕ). wordsOf n ids) (omega arith))
+    let i = ap inputsOf (c .new-gathered .ensures) in (
+      ap mtimeOf (c .new-gathered .ensures),
+      ap length i,
+      ap (λ (xs : List ℕ). xs ++ wordsOf (length ids / 4 - 0) ids) i ∙ ap (λ (n : ℕ). wordsOf n ids) (omega arith),
+    )
 
 pub loop-k-again : need.loop-k-again
 loop-k-again c =
@@ -47,10 +49,11 @@ loop-k-again c =
     let room : c .push .result ≡ true = c .push .ensures .room ∙ lt-ltb (length (was .inputs)) 64 (omega (arith, c .loop-k .inv .1, c .if-count-gt64 .left)) in
     let more : Entry = record { mtime = was .mtime; inputs = was .inputs ▷ c .word-at .result } in
     let e : entryOf (c .push .last .self) ≡ more = c .push .ensures .after ∙ cond-true (c .push .result) more was room in
-    let i : inputsOf (entryOf (c .push .last .self)) ≡ was .inputs ▷ wordAt ids (4 * k) = ap inputsOf e ∙ ap (λ (w : ℕ). was .inputs ▷ w) (c .word-at .ensures) in
-    (ap mtimeOf e ∙ c .loop-k .inv .0,
+    let i : inputsOf (entryOf (c .push .last .self)) ≡ was .inputs ▷ wordAt ids (4 * k) = ap inputsOf e ∙ ap (λ (w : ℕ). was .inputs ▷ w) (c .word-at .ensures) in (
+      ap mtimeOf e ∙ c .loop-k .inv .0,
       omega (arith, ap length i, length-push (was .inputs) (wordAt ids (4 * k)), c .loop-k .inv .1),
-      ap (λ (xs : List ℕ). xs ++ wordsOf (n - (k + 1)) (drop (4 * (k + 1)) ids)) i ∙ words-gathered n k ids (was .inputs) h (c .loop-k .inv .2))
+      ap (λ (xs : List ℕ). xs ++ wordsOf (n - (k + 1)) (drop (4 * (k + 1)) ids)) i ∙ words-gathered n k ids (was .inputs) h (c .loop-k .inv .2),
+    )
 
 pub returns : need.returns
 returns c =
@@ -61,7 +64,7 @@ returns c =
     let was = entryOf (c .loop-k .gathered) in
     let z : n - k ≡ 0 = omega (arith, c .loop-k-test .left) in
     let i : was .inputs ≡ idsOf d =
-      sym (append-nil (was .inputs)) ∙ ap (λ (j : ℕ). was .inputs ++ wordsOf j (drop (4 * k) bytes)) (sym z) ∙ c .loop-k .inv .2 in
+    sym (append-nil (was .inputs)) ∙ ap (λ (j : ℕ). was .inputs ++ wordsOf j (drop (4 * k) bytes)) (sym z) ∙ c .loop-k .inv .2 in
     let F : ℕ → List ℕ → Option Entry = λ m xs. Some (record { mtime = m; inputs = xs }) in
     let l : length (idsOf d) ≤ 64 = omega (arith, length-wordsOf n bytes, c .if-count-gt64 .left) in
     ap (λ (m : ℕ). F m (was .inputs)) (c .loop-k .inv .0) ∙ ap (F (d .mtime)) i ∙ sym (cond-true (leb (length (idsOf d)) 64) (F (d .mtime) (idsOf d)) None (le-leb (length (idsOf d)) 64 l))

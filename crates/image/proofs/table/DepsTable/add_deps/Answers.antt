@@ -29,8 +29,8 @@ ghost-self c =
     let n : ℕ = vec-len (t .names) in
     let known : every (λ id. ltb id n) (entryOf e .inputs) ≡ true = ap (λ (k : ℕ). every (λ id. ltb id k) (entryOf e .inputs)) (sym (names-long t)) ∙ c .pre .inputs in
     let fit : every (fitsEntry n) (map (mapped entryOf) (set (vec-items (t .entries)) (c .args .output) (Some e))) ≡ true =
-      ap (every (fitsEntry n)) (map-set (mapped entryOf) (vec-items (t .entries)) (c .args .output) (Some e)) ∙
-      every-set (fitsEntry n) (view t .entries) (c .args .output) (Some (entryOf e)) (t .fitting) (entry-fits n e known) in
+    ap (every (fitsEntry n)) (map-set (mapped entryOf) (vec-items (t .entries)) (c .args .output) (Some e)) ∙
+    every-set (fitsEntry n) (view t .entries) (c .args .output) (Some (entryOf e)) (t .fitting) (entry-fits n e known) in
     (t .roomy, (t .wide, (t .few, (t .paired, (t .apart, (fit, tt))))))
 
 pub returns : need.returns

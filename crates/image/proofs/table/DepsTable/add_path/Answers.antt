@@ -28,14 +28,26 @@ ghost-self c =
     let names = map-pushed text (vec-items (t .names)) (vec-items (c .push-reserved .last .self)) (c .args .name) (c .push-reserved .ensures .items) in
     let entries = map-pushed (mapped entryOf) (vec-items (t .entries)) (vec-items (c .push-reserved-2 .last .self)) None (c .push-reserved-2 .ensures .items) in
     let n : ℕ = vec-len (t .names) in
-    let more : every (fitsEntry (n + 1)) (view t .entries) ≡ true = every-more (fitsEntry n) (fitsEntry (n + 1)) (fits-more n) (view t .entries) (t .fitting) in
-    (omega (arith, t .roomy, c .push-reserved .ensures .capacity),
-    (omega (arith, t .wide, c .push-reserved-2 .ensures .capacity),
-    (omega (arith, names-long t, c .pre .room, c .push-reserved .ensures .len),
-    (omega (arith, t .paired, c .push-reserved .ensures .len, c .push-reserved-2 .ensures .len),
-    (ap distinct names ∙ distinct-push (view t .names) (text (c .args .name)) (t .apart) (c .pre .unknown),
-    (ap (λ (k : ℕ). every (fitsEntry k) (map (mapped entryOf) (vec-items (c .push-reserved-2 .last .self)))) (c .push-reserved .ensures .len) ∙
-      ap (every (fitsEntry (n + 1))) entries ∙ every-push (fitsEntry (n + 1)) (view t .entries) None more refl, tt))))))
+    let more : every (fitsEntry (n + 1)) (view t .entries) ≡ true = every-more (fitsEntry n) (fitsEntry (n + 1)) (fits-more n) (view t .entries) (t .fitting) in (
+      omega (arith, t .roomy, c .push-reserved .ensures .capacity),
+      (
+        omega (arith, t .wide, c .push-reserved-2 .ensures .capacity),
+        (
+          omega (arith, names-long t, c .pre .room, c .push-reserved .ensures .len),
+          (
+            omega (arith, t .paired, c .push-reserved .ensures .len, c .push-reserved-2 .ensures .len),
+            (
+              ap distinct names ∙ distinct-push (view t .names) (text (c .args .name)) (t .apart) (c .pre .unknown),
+              (
+                ap (λ (k : ℕ). every (fitsEntry k) (map (mapped entryOf) (vec-items (c .push-reserved-2 .last .self)))) (c .push-reserved .ensures .len) ∙
+                    ap (every (fitsEntry (n + 1))) entries ∙ every-push (fitsEntry (n + 1)) (view t .entries) None more refl,
+                tt,
+              ),
+            ),
+          ),
+        ),
+      ),
+    )
 
 pub returns : need.returns
 returns c =

@@ -19,7 +19,7 @@ returns-then-eq c =
     let h : c .loop-id .id < length (c .deref-known-items .result .now) = c .loop-id-test .taken in
     let l : c .loop-id .id < length ns = omega (arith, names-long t, c .deref-known-items .ensures .len) in
     let q = asked-at (t .names .items) (c .deref-known-items .result .now) (c .loop-id .id) (c .known-item .result) (c .as-bytes .result .now) (c .args .name .now) (c .eq .result)
-      (c .deref-known-items .ensures .value) h (c .known-item .is) (c .as-bytes .ensures .bytes) (matches-decides _ _ _ (c .eq .ensures)) in
+    (c .deref-known-items .ensures .value) h (c .known-item .is) (c .as-bytes .ensures .bytes) (matches-decides _ _ _ (c .eq .ensures)) in
     sym (place-here (c .loop-id .id) (sameBytes (c .args .name .now)) ns l (q ∙ c .if-eq .taken)) ∙ c .loop-id .inv
 
 pub loop-id-again : need.loop-id-again
@@ -29,7 +29,7 @@ loop-id-again c =
     let h : c .loop-id .id < length (c .deref-known-items .result .now) = c .loop-id-test .taken in
     let l : c .loop-id .id < length ns = omega (arith, names-long t, c .deref-known-items .ensures .len) in
     let q = asked-at (t .names .items) (c .deref-known-items .result .now) (c .loop-id .id) (c .known-item .result) (c .as-bytes .result .now) (c .args .name .now) (c .eq .result)
-      (c .deref-known-items .ensures .value) h (c .known-item .is) (c .as-bytes .ensures .bytes) (matches-decides _ _ _ (c .eq .ensures)) in
+    (c .deref-known-items .ensures .value) h (c .known-item .is) (c .as-bytes .ensures .bytes) (matches-decides _ _ _ (c .eq .ensures)) in
     sym (place-past (c .loop-id .id) (sameBytes (c .args .name .now)) ns l (q ∙ c .if-eq .left)) ∙ c .loop-id .inv
 
 pub returns : need.returns

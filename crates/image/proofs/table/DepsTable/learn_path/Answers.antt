@@ -30,7 +30,7 @@ add-path-requires c κs =
     let m = name-made name (c .in-Some .name) (c .in-Some .ensures tt) in
     record {
       unknown = ap (λ (xs : List ℕ). isIn xs (t .names)) (m .0) ∙ known-by name (t .names) false (c .if-is-some .ensures tt ∙ ap isSome (c .id-of .ensures));
-      room = omega (arith, c .path-count .ensures .count, c .if-path-count-ge256 .left)
+      room = omega (arith, c .path-count .ensures .count, c .if-path-count-ge256 .left);
     }
 
 pub returns-in-Some : need.returns-in-Some

@@ -20,7 +20,10 @@ fn read_log(rt: &LibcRuntime, path: &str) -> io::Result<Option<Vec<u8>>> {
     let bytes = match fs::metadata(rt, path) {
         Ok(about) if about.len() > LONGEST => {
             let len = about.len();
-            eprintln!(rt, "hefnwyrad: {path}: has {len} bytes, more than the {LONGEST} of a log")?;
+            eprintln!(
+                rt,
+                "hefnwyrad: {path}: has {len} bytes, more than the {LONGEST} of a log"
+            )?;
             return Ok(None);
         }
         Ok(_) => fs::read(rt, path),
@@ -43,7 +46,12 @@ fn print_name(rt: &LibcRuntime, table: &DepsTable, id: usize) -> io::Result<()> 
 }
 
 // The output, the mtime and the inputs of an entry, after what the line begins with.
-fn print_entry(rt: &LibcRuntime, table: &DepsTable, output: usize, entry: &DepsEntry) -> io::Result<()> {
+fn print_entry(
+    rt: &LibcRuntime,
+    table: &DepsTable,
+    output: usize,
+    entry: &DepsEntry,
+) -> io::Result<()> {
     print_name(rt, table, output)?;
     print!(rt, " {}:", entry.mtime())?;
     for id in entry.inputs() {
@@ -126,11 +134,17 @@ pub fn dump(rt: &LibcRuntime, path: &str) -> io::Result<bool> {
             Ok(true)
         }
         Err(Refusal::NoHeader) => {
-            eprintln!(rt, "hefnwyrad: {path}: at 0: does not begin with the header of a deps log, version 4")?;
+            eprintln!(
+                rt,
+                "hefnwyrad: {path}: at 0: does not begin with the header of a deps log, version 4"
+            )?;
             Ok(false)
         }
         Err(Refusal::OverLimit(offset)) => {
-            eprintln!(rt, "hefnwyrad: {path}: at {offset}: the record is over a limit (120 bytes of a name, 256 paths, 64 inputs)")?;
+            eprintln!(
+                rt,
+                "hefnwyrad: {path}: at {offset}: the record is over a limit (120 bytes of a name, 256 paths, 64 inputs)"
+            )?;
             Ok(false)
         }
     }

@@ -6,7 +6,8 @@ use dump::dump;
 use std::env;
 use std::io;
 
-const USAGE: &str = "usage: hefnwyrad dump LOG    print each record of a deps log, its entries, and a tail that cannot be read";
+const USAGE: &str =
+    "usage: hefnwyrad dump LOG    print each record of a deps log, its entries, and a tail that cannot be read";
 
 // What was asked could not be done; a line on standard error has said why.
 #[derive(Debug, Drop)]

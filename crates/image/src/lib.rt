@@ -14,8 +14,12 @@ mod words;
 mod writer;
 
 pub use cause::Cause;
+pub use cause::CauseDebug;
+pub use cause::CausePartialEq;
 pub use entry::DepsEntry;
 pub use filled::Filled;
+pub use filled::FilledDebug;
+pub use filled::FilledPartialEq;
 pub use name::Name;
 pub use reader::read_record;
 pub use records::Deps;

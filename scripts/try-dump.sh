@@ -1,0 +1,39 @@
+#!/usr/bin/env bash
+# Runs the program on the example logs and on files that are no logs, and compares what it prints and its status with what is stored.
+# Usage: scripts/try-dump.sh [--write]    (with --write, what it prints is stored)
+set -euo pipefail
+cd "$(dirname "$0")/.."
+./hefnwyrad > /dev/null
+scratch=$(mktemp -d)
+trap 'rm -r "$scratch"' EXIT
+head -c 65537 /dev/zero > "$scratch/too-long.deps"
+head -c 15 examples/tiny.deps > "$scratch/fifteen.deps"
+: > "$scratch/empty.deps"
+python3 - "$scratch/over.deps" <<'P'
+import struct, sys
+name = b"n" * 121 + b"\0" * 3
+open(sys.argv[1], "wb").write(b"# ninjadeps\n" + struct.pack("<II", 4, len(name) + 4) + name + struct.pack("<I", 0xFFFFFFFF))
+P
+program=$PWD/target/bin/hefnwyrad
+cp examples/*.deps "$scratch"
+one() {
+    echo "\$ hefnwyrad $*"
+    local status=0
+    "$program" "$@" 2>&1 || status=$?
+    echo "status $status"
+}
+all() (
+    cd "$scratch"
+    one
+    one paint
+    one dump tiny.deps extra
+    for log in tiny cut ninja empty fifteen over too-long missing; do
+        one dump "$log.deps"
+    done
+    one dump .
+)
+if [ "${1:-}" = --write ]; then
+    all > examples/dump.expected
+else
+    all | diff examples/dump.expected - && echo "the program prints what is stored"
+fi

@@ -121,7 +121,7 @@ fn print_sum(rt: &LibcRuntime, filled: Filled, entries: usize) -> io::Result<()>
 }
 
 // Prints a log; false, and a line on standard error, where it cannot be read as one.
-pub fn dump(rt: &LibcRuntime, path: &str) -> io::Result<bool> {
+pub(super) fn dump(rt: &LibcRuntime, path: &str) -> io::Result<bool> {
     let Some(image) = read_log(rt, path)? else {
         return Ok(false);
     };

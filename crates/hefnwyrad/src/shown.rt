@@ -21,7 +21,7 @@ pub impl fmt::Display for Shown<'_> as ShownDisplay {
 }
 
 // Why a record is bad.
-pub fn cause_text(cause: Cause) -> &'static str {
+pub(super) fn cause_text(cause: Cause) -> &'static str {
     match cause {
         Cause::NoWord => "fewer than 4 bytes remain",
         Cause::TooLong => "the size exceeds the bytes that remain",

@@ -1,13 +1,13 @@
 -- What the bytes at the front of an area come to after each change. Assumes nothing.
-use mathlib.Core.Path.{_≡_, refl, sym, ap, _∙_}
+use mathlib.Core.Path.{_≡_, sym, ap, _∙_}
 use mathlib.Core.List.{List, [], _++_}
 use Prim.Native.Nat.{ℕ, _+_, _-_, _*_, _/_, _≤_, _<_, min, max}
 use native.Mathlib.Omega.{arith}
-use lib.ListN.{length, take, drop, getD, take-append-drop, length-take, length-drop, length-append}
+use lib.ListN.{length, take, drop, take-append-drop, length-take}
 use borrow.Author.Needs.{needs}
 use borrow.Rule.Slice.PartMut.{putMid, postOf}
 use Rattle.std.proofs.shelf.Lists.{drop-all, places, same-lists, take-all}
-use Rattle.medium.specs.State.{Bytes, State, all, settled, none, more, cut}
+use Rattle.medium.specs.State.{Bytes, all, settled, more, cut}
 use Rattle.media.specs.Fill.{front, pageEnd, whole}
 
 pub all-front : (xs : List ℕ) (n d : ℕ) → all (front xs n d) ≡ take n xs

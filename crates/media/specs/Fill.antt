@@ -1,5 +1,5 @@
 -- The bytes at the front of an area. Assumes nothing.
-use mathlib.Core.List.{List, _++_}
+use mathlib.Core.List.{List}
 use Prim.Native.Nat.{ℕ, _*_, _/_, max}
 use lib.ListN.{length, take, drop}
 use Rattle.medium.specs.State.{Bytes, all, settled}

@@ -1,7 +1,7 @@
 -- What a medium does whose failures are told: one answer, one state after and one plan after for each call. s is the state
 -- before a call and p the plan. Assumes nothing.
-use mathlib.Core.Bool.{Bool, true, false, cond}
-use mathlib.Core.List.{List, _++_}
+use mathlib.Core.Bool.{true, false, cond}
+use mathlib.Core.List.{List}
 use Prim.Native.Nat.{ℕ, _+_, _-_}
 use lib.Dec.{eqb, leb}
 use lib.ListN.{length}
@@ -49,28 +49,31 @@ powered s p o = cond (s .power) o (refused Off s p)
 abbrev pub roomy : Bytes → List ℕ → State → Plan → Outcome (Unit {0}) → Outcome (Unit {0})
 roomy b bs s p o = powered s p (cond (leb (length (all b) + length bs) (s .capacity)) o (refused Full s p))
 
--- a failure counts the bytes in hand as pending
+-- append: a failure counts the bytes in hand as pending
 abbrev pub append : List ℕ → State → Plan → Outcome (Unit {0})
 append bs s p = roomy (s .live) bs s p (stepped tt (with-appended bs s) (with-appended bs s) p)
 
+-- sync: all live bytes are durable
 abbrev pub sync : State → Plan → Outcome (Unit {0})
 sync s p = powered s p (stepped tt s (with-synced s) p)
 
--- x is the token
+-- draft begin: the draft is empty, and x is the token
 abbrev pub begin : {A : Type 0} → A → State → Plan → Outcome A
 begin x s p = powered s p (stepped x s (with-begun s) p)
 
+-- draft append: the bytes are pending ones of the draft
 abbrev pub draft-append : List ℕ → State → Plan → Outcome (Unit {0})
 draft-append bs s p = roomy (s .draft) bs s p (stepped tt s (with-drafted bs s) p)
 
+-- draft sync: all bytes of the draft are durable
 abbrev pub draft-sync : State → Plan → Outcome (Unit {0})
 draft-sync s p = powered s p (stepped tt s (with-draft-synced s) p)
 
--- at side 0 a failure meets the old live bytes, and at any other those of the draft
+-- promote: at side 0 a failure meets the old live bytes, and at any other those of the draft
 abbrev pub promote : State → Plan → Outcome (Unit {0})
 promote s p = powered s p (stepped tt (cond (eqb (p .side) 0) s (with-promoted s)) (with-promoted s) p)
 
--- power always returns
+-- power return: it is always granted
 abbrev pub power-return : State → Plan → Outcome (Unit {0})
 power-return s p = record { answer = Ok tt; after = with-power true s; plan = p }
 

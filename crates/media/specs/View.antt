@@ -1,10 +1,8 @@
 -- What a bench and a paged medium stand for. Assumes nothing.
-use mathlib.Core.List.{List}
 use Prim.Native.Nat.{ℕ, min}
-use lib.ListN.{length}
 use Rattle.std.specs.declared.result.Result.{Result}
 use Rattle.medium.specs.declared.Fault.{Fault}
-use Rattle.medium.specs.State.{State, Bytes}
+use Rattle.medium.specs.State.{State}
 use Rattle.media.specs.declared.bench.Bench.{Bench}
 use Rattle.media.specs.declared.paged.Paged.{Paged}
 use Rattle.media.specs.Fill.{onShelf, sizeOf, onTray}
@@ -14,6 +12,7 @@ use Rattle.media.specs.Told.{Outcome, never}
 abbrev pub room : ℕ → ℕ → ℕ
 room m n = min (min m n) 65536
 
+-- the capacity of a bench
 abbrev pub capacityOf : Bench → ℕ
 capacityOf b = room (sizeOf (b .live)) (sizeOf (b .draft))
 

@@ -2,7 +2,7 @@
 ghost use mathlib.Core.Path.{_≡_};
 ghost use mathlib.Core.Bool.{true};
 ghost use lib.ListN.{length, take};
-ghost use Rattle.medium.specs.State.{State, none, settled, with-promoted};
+ghost use Rattle.medium.specs.State.{none, settled, with-promoted};
 ghost use Rattle.medium.specs.Calls.{Measured, ReadOut, Appended, Synced, Begun, Drafted, DraftSynced, Promoted, Failed, Returned};
 ghost use Rattle.media.specs.Told.{stepped, fallen, append, sync, begin, draft-append, draft-sync, promote, power-return, measure, count, copied};
 ghost use Rattle.media.specs.View.{ofBench, room, outcomeBench};

@@ -3,7 +3,7 @@ ghost use mathlib.Core.Path.{_≡_};
 ghost use mathlib.Core.List.{_++_};
 ghost use Prim.Native.Nat.{_+_, _-_, _≤_, min};
 ghost use lib.ListN.{length, take, drop};
-ghost use Rattle.medium.specs.State.{all, settled, none, more, cut};
+ghost use Rattle.medium.specs.State.{all, settled, more, cut};
 ghost use Rattle.media.specs.Fill.{onShelf, sizeOf};
 
 // The first `len` bytes of the area count, as far as it goes and there is room; the first `durable` of these outlast a

@@ -5,7 +5,7 @@ use mathlib.Core.List.{List, [], _++_, append-nil, append-assoc}
 use mathlib.Core.Logic.{_⊎_, inl, inr, ⊎-elim}
 use Prim.Native.Nat.{ℕ, _+_, _-_, _≤_, _<_, min}
 use native.Mathlib.Omega.{arith}
-use lib.ListN.{length, take, drop, getD, length-take, length-append}
+use lib.ListN.{length, take, length-take, length-append}
 use borrow.Author.Needs.{needs}
 use borrow.Rule.Slice.PartMut.{putMid}
 use Rattle.std.proofs.shelf.Lists.{places, same-lists}
@@ -14,9 +14,9 @@ use Rattle.std.specs.declared.result.Result.{Result}
 use Rattle.std.specs.declared.result.Result.the-variants.{Ok, Err}
 use Rattle.medium.specs.declared.Fault.{Fault}
 use Rattle.medium.specs.declared.Fault.the-variants.{Off, Full}
-use Rattle.medium.specs.State.{Bytes, all, settled, none, more, cut, State, with-live, with-draft, with-power, with-appended}
+use Rattle.medium.specs.State.{Bytes, all, settled, more, State, with-live, with-draft, with-appended}
 use Rattle.medium.specs.Failure.{Fell}
-use Rattle.medium.specs.Calls.{Granted, Refused, Idle, Broken, Step, Room, NoRoom, Appended, Synced, Promoted, Failed, Returned}
+use Rattle.medium.specs.Calls.{Idle, Broken, Step, Room, Appended, Synced, Promoted, Failed}
 use Rattle.medium.specs.Holding.{buffered, spare, kept, lit, Sizing, Skipped, Handed, Passed, Call, Followed, Stopped, PassedThen, HeldBack, refused-off, refused-full, only-held, passed-on}
 
 pub length-more : (b : Bytes) (hs : List ℕ) → length (all (more b hs)) ≡ length (all b) + length hs

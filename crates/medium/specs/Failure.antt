@@ -1,7 +1,7 @@
 -- What a failure of the power leaves: the one rule that every failure follows. Assumes nothing.
 use mathlib.Core.Path.{_≡_}
 use mathlib.Core.Bool.{false}
-use mathlib.Core.List.{List, []}
+use mathlib.Core.List.{[]}
 use Prim.Native.Nat.{ℕ, _≤_}
 use lib.ListN.{length}
 use Rattle.medium.specs.State.{Bytes, all, cut, State}

@@ -42,6 +42,7 @@ pub record Sizing (s : State) (xs : List ℕ) (n l h : ℕ) : Type 0 where
   pub room : h ≤ s .capacity - l
   pub small : l + h < 2 ^ 64
 
+-- the sizes are asked for: answered while the power is on, and refused as off else
 abbrev pub Sized : State → List ℕ → ℕ → Result Sizes Fault → Type 0
 Sized s xs n (Ok z) = Sizing s xs n (z .below) (z .held)
 Sized s xs n (Err Off) = s .power ≡ false

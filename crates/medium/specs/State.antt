@@ -1,6 +1,5 @@
 -- What a medium holds, as its user sees it, and how each call changes it where it is granted. Assumes nothing.
-use mathlib.Core.Path.{_≡_}
-use mathlib.Core.Bool.{Bool, true, false}
+use mathlib.Core.Bool.{Bool}
 use mathlib.Core.List.{List, [], _++_}
 use Prim.Native.Nat.{ℕ}
 use lib.ListN.{take}
@@ -37,12 +36,15 @@ pub record State : Type 0 where
   pub live : Bytes
   pub draft : Bytes
 
+-- s with its power on or off, as p says
 abbrev pub with-power : Bool → State → State
 with-power p s = record { power = p; capacity = s .capacity; live = s .live; draft = s .draft }
 
+-- s with b as its live bytes
 abbrev pub with-live : Bytes → State → State
 with-live b s = record { power = s .power; capacity = s .capacity; live = b; draft = s .draft }
 
+-- s with b as its draft
 abbrev pub with-draft : Bytes → State → State
 with-draft b s = record { power = s .power; capacity = s .capacity; live = s .live; draft = b }
 

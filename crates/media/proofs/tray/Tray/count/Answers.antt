@@ -1,6 +1,5 @@
 use mathlib.Core.Path.{_≡_}
 use native.Mathlib.Omega.{arith}
-use Prim.Native.Nat.{min}
 use lib.ListN.{length, take, length-take}
 use Rattle.media.proofs.Fronts.{length-front}
 use Rattle.media.proofs.tray.Tray.count.Needs as need

@@ -1,4 +1,4 @@
-use Rattle.medium.specs.State.{all, settled, none, more, with-draft}
+use Rattle.medium.specs.State.{more, with-draft}
 use Rattle.medium.proofs.Layers.{through, through-held}
 use Rattle.medium.proofs.buffer.WriteBufferMedium.draft_append.Needs as need
 

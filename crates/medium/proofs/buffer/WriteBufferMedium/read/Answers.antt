@@ -1,8 +1,7 @@
-use mathlib.Core.Path.{refl, sym, _∙_, ap, subst}
-use mathlib.Core.List.{List, _++_, append-assoc}
+use mathlib.Core.List.{append-assoc}
 use native.Mathlib.Omega.{arith}
 use Prim.Native.Nat.{_+_, _-_, _<_, _≤_}
-use lib.ListN.{take, drop, length}
+use lib.ListN.{length}
 use Rattle.medium.specs.State.{all}
 use Rattle.medium.specs.Holding.{kept}
 use Rattle.medium.proofs.Layers.{length-kept}

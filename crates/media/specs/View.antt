@@ -1,8 +1,11 @@
 -- What a bench and a paged medium stand for. Assumes nothing.
+use mathlib.Core.Bool.{true}
+use mathlib.Core.List.{List}
 use Prim.Native.Nat.{ℕ, min}
+use lib.ListN.{length, take}
 use Rattle.std.specs.declared.result.Result.{Result}
 use Rattle.medium.specs.declared.Fault.{Fault}
-use Rattle.medium.specs.State.{State}
+use Rattle.medium.specs.State.{State, settled, none}
 use Rattle.media.specs.declared.bench.Bench.{Bench}
 use Rattle.media.specs.declared.paged.Paged.{Paged}
 use Rattle.media.specs.Fill.{onShelf, sizeOf, onTray}
@@ -19,6 +22,17 @@ capacityOf b = room (sizeOf (b .live)) (sizeOf (b .draft))
 -- the state of a bench
 abbrev pub ofBench : Bench → State
 ofBench b = record { power = b .on; capacity = capacityOf b; live = onShelf (capacityOf b) (b .live); draft = onShelf (capacityOf b) (b .draft) }
+
+-- the state that a bench starts with, over the areas xs and ys: the power is on, the first n bytes of xs, as far as the capacity
+-- goes, are live and durable, and the draft is empty
+abbrev pub started : ℕ → List ℕ → List ℕ → State
+started n xs ys =
+    record {
+      power = true;
+      capacity = room (length xs) (length ys);
+      live = settled (take n (take (room (length xs) (length ys)) xs));
+      draft = none;
+    }
 
 -- an answer, with the bench that it leaves
 abbrev pub outcomeBench : {A : Type 0} → Result A Fault → Bench → Outcome A

@@ -1,11 +1,11 @@
 // A medium over two lent areas, whose power fails at the step that it is told.
 ghost use mathlib.Core.Path.{_≡_};
 ghost use mathlib.Core.Bool.{true};
-ghost use lib.ListN.{length, take};
-ghost use Rattle.medium.specs.State.{none, settled, with-promoted};
+ghost use lib.ListN.{length};
+ghost use Rattle.medium.specs.State.{with-promoted};
 ghost use Rattle.medium.specs.Calls.{Measured, ReadOut, Appended, Synced, Begun, Drafted, DraftSynced, Promoted, Failed, Returned};
 ghost use Rattle.media.specs.Told.{stepped, fallen, append, sync, begin, draft-append, draft-sync, promote, power-return, measure, count, copied};
-ghost use Rattle.media.specs.View.{ofBench, room, outcomeBench};
+ghost use Rattle.media.specs.View.{ofBench, outcomeBench, started};
 use crate::shelf::Shelf;
 use medium::Fault;
 use medium::Medium;
@@ -39,7 +39,7 @@ pub struct Bench<'a> {
 impl<'a> Bench<'a> {
     // The first `first` bytes of `live`, as far as there is room, are the live bytes.
     pub fn new(live: &'a mut [u8], draft: &'a mut [u8], first: usize, plan: Plan) -> Bench<'a>
-        ensures state { λ r. ⌜ ofBench r ≡ record { power = true; capacity = room (length (now (live .entry))) (length (now (draft .entry))); live = settled (take first (take (room (length (now (live .entry))) (length (now (draft .entry)))) (now (live .entry)))); draft = none } ⌝ }
+        ensures state { λ r. ⌜ ofBench r ≡ started first (now (live .entry)) (now (draft .entry)) ⌝ }
         ensures plan { λ r. ⌜ r .plan ≡ plan ⌝ }
     {
         Bench {

@@ -1,0 +1,3 @@
+pub mod Fill
+pub mod Told
+pub mod View

@@ -2,6 +2,7 @@
 use super::shown::Shown;
 use super::shown::ShownDisplay;
 use super::shown::cause_text;
+use super::shown::refusal_text;
 use image::Deps;
 use image::DepsEntry;
 use image::DepsTable;
@@ -11,7 +12,6 @@ use image::read_record;
 use std::fs;
 use std::io;
 use terms::At;
-use terms::Refusal;
 
 const LONGEST: u64 = 65_536;
 
@@ -133,17 +133,13 @@ pub(super) fn dump(rt: &LibcRuntime, path: &str) -> io::Result<bool> {
             print_sum(rt, filled, entries)?;
             Ok(true)
         }
-        Err(Refusal::NoHeader) => {
+        Err(refusal) => {
+            let number = refusal.number();
+            let place = refusal.place();
+            let text = refusal_text(refusal);
             eprintln!(
                 rt,
-                "hefnwyrad: {path}: at 0: does not begin with the header of a deps log, version 4"
-            )?;
-            Ok(false)
-        }
-        Err(Refusal::OverLimit(offset)) => {
-            eprintln!(
-                rt,
-                "hefnwyrad: {path}: at {offset}: the record is over a limit (120 bytes of a name, 256 paths, 64 inputs)"
+                "hefnwyrad: {path}: refused {number} at {place} ({text})"
             )?;
             Ok(false)
         }

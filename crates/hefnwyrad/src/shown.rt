@@ -1,6 +1,7 @@
 // Names and causes in words.
 use image::Cause;
 use std::fmt;
+use terms::Refusal;
 
 // A name as it is printed: a space, a `%`, a byte below 33 and a byte above 126 as `%` and two hexadecimal digits.
 #[derive(Clone, Copy)]
@@ -29,5 +30,21 @@ pub(super) fn cause_text(cause: Cause) -> &'static str {
         Cause::BadChecksum => "the checksum does not fit the next id",
         Cause::BadName => "the name holds a zero byte, or is known already",
         Cause::UnknownId => "an id is not known yet",
+    }
+}
+
+// Why a call is refused.
+pub(super) fn refusal_text(refusal: Refusal) -> &'static str {
+    match refusal {
+        Refusal::PowerOff => "the power is off or failed",
+        Refusal::PowerLost => "the power failed after the live bytes were copied",
+        Refusal::Full => "the capacity is too small for the call's bytes",
+        Refusal::Closed => "the log is closed",
+        Refusal::AlreadyOpen => "the log is open already",
+        Refusal::NoHeader => "it does not begin with the header of a deps log, version 4",
+        Refusal::OverLimit(_) =>
+            "the record there is over a limit: 120 bytes of a name, 256 paths, 64 inputs",
+        Refusal::CopyShort(_) => "the copy buffer is shorter than the live bytes",
+        Refusal::NotName(_) => "the name is empty, has more than 120 bytes, or holds a zero byte",
     }
 }

@@ -25,6 +25,7 @@ pub use reader::read_record;
 pub use records::Deps;
 pub use records::Read;
 pub use table::DepsTable;
+pub use writer::HEADER;
 pub use writer::TooShort;
 pub use writer::write_deps;
 pub use writer::write_header;

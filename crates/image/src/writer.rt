@@ -8,7 +8,8 @@ ghost use Rattle.image.specs.Written.{overwritten, written};
 use super::entry::DepsEntry;
 use super::name::Name;
 
-pub(super) const HEADER: [u8; 16] = *b"# ninjadeps\n\x04\0\0\0";
+// What an image begins with: a text, a newline, and the version 4.
+pub const HEADER: [u8; 16] = *b"# ninjadeps\n\x04\0\0\0";
 
 // The buffer is too short: so many bytes are needed.
 #[derive(Clone, Copy, PartialEq, Eq, Debug)]

@@ -1,11 +1,18 @@
 -- The number and the place of each refusal. Assumes nothing.
 use Prim.Native.Nat.{ℕ}
 use Rattle.terms.specs.declared.Refusal.{Refusal}
-use Rattle.terms.specs.declared.Refusal.the-variants.{NoHeader, OverLimit}
+use Rattle.terms.specs.declared.Refusal.the-variants.{PowerOff, PowerLost, Full, Closed, AlreadyOpen, NoHeader, OverLimit, CopyShort, NotName}
 
 abbrev pub numberAndPlace : Refusal → ℕ × ℕ
+numberAndPlace PowerOff = (1, 0)
+numberAndPlace PowerLost = (1, 1)
+numberAndPlace Full = (2, 0)
+numberAndPlace Closed = (3, 0)
+numberAndPlace AlreadyOpen = (4, 0)
 numberAndPlace NoHeader = (5, 0)
 numberAndPlace (OverLimit offset) = (6, offset)
+numberAndPlace (CopyShort length) = (7, length)
+numberAndPlace (NotName index) = (8, index)
 
 abbrev pub numberOf : Refusal → ℕ
 numberOf r = numberAndPlace r .0

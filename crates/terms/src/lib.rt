@@ -26,10 +26,24 @@ pub struct Found {
 // Why a call is refused.
 #[derive(Clone, Copy, PartialEq, Eq, Debug)]
 pub enum Refusal {
+    // The power is off, did not return, or failed in the call.
+    PowerOff,
+    // The power failed in an open, after it had copied the live bytes.
+    PowerLost,
+    // The capacity is too small for the bytes of the call.
+    Full,
+    // The log is closed.
+    Closed,
+    // The log is open already.
+    AlreadyOpen,
     // The image is not empty and does not begin with the header.
     NoHeader,
     // The record at this offset is over a limit.
     OverLimit(usize),
+    // The copy buffer is shorter than the live bytes, which are so many.
+    CopyShort(usize),
+    // The name with this index is empty, has more than 120 bytes, or holds a zero.
+    NotName(usize),
 }
 
 impl Refusal {
@@ -37,8 +51,14 @@ impl Refusal {
         ensures { λ n. ⌜ n ≡ numberOf self ⌝ }
     {
         match self {
+            Refusal::PowerOff | Refusal::PowerLost => 1,
+            Refusal::Full => 2,
+            Refusal::Closed => 3,
+            Refusal::AlreadyOpen => 4,
             Refusal::NoHeader => 5,
             Refusal::OverLimit(_) => 6,
+            Refusal::CopyShort(_) => 7,
+            Refusal::NotName(_) => 8,
         }
     }
 
@@ -46,8 +66,11 @@ impl Refusal {
         ensures { λ n. ⌜ n ≡ placeOf self ⌝ }
     {
         match self {
-            Refusal::NoHeader => 0,
+            Refusal::PowerLost => 1,
             Refusal::OverLimit(offset) => offset,
+            Refusal::CopyShort(length) => length,
+            Refusal::NotName(index) => index,
+            _ => 0,
         }
     }
 }

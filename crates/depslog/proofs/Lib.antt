@@ -1,0 +1,4 @@
+pub mod Inputs
+pub mod Opens
+pub mod Faults
+pub mod OpenCases

@@ -1,0 +1,5 @@
+pub mod State
+pub mod Checks
+pub mod Replacing
+pub mod Calls
+pub mod Opening

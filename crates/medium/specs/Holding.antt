@@ -73,7 +73,7 @@ pub record Followed (hs : List ℕ) (call : Call) (s : State) (r : Result (Unit 
   pub passed : Passed hs s (Ok tt) between
   pub made : call between r t
 
--- what is held was not passed below, and the call was not made
+-- the append of what is held was not granted, and the call was not made
 pub record Stopped (hs : List ℕ) (s : State) (r : Result (Unit {0}) Fault) (t : State) : Type 0 where
   pub fault : Fault
   pub answer : r ≡ Err fault

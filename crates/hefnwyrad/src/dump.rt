@@ -1,4 +1,5 @@
 // Printing what a deps log holds.
+use super::files::read_log;
 use super::shown::Shown;
 use super::shown::ShownDisplay;
 use super::shown::cause_text;
@@ -9,34 +10,8 @@ use image::DepsTable;
 use image::Filled;
 use image::Read;
 use image::read_record;
-use std::fs;
 use std::io;
 use terms::At;
-
-const LONGEST: u64 = 65_536;
-
-// The bytes of a log; none, and a line on standard error, where they cannot be had.
-fn read_log(rt: &LibcRuntime, path: &str) -> io::Result<Option<Vec<u8>>> {
-    let bytes = match fs::metadata(rt, path) {
-        Ok(about) if about.len() > LONGEST => {
-            let len = about.len();
-            eprintln!(
-                rt,
-                "hefnwyrad: {path}: has {len} bytes, more than the {LONGEST} of a log"
-            )?;
-            return Ok(None);
-        }
-        Ok(_) => fs::read(rt, path),
-        Err(e) => Err(e),
-    };
-    match bytes {
-        Ok(bytes) => Ok(Some(bytes)),
-        Err(e) => {
-            eprintln!(rt, "hefnwyrad: {path}: cannot be read: {e}")?;
-            Ok(None)
-        }
-    }
-}
 
 fn print_name(rt: &LibcRuntime, table: &DepsTable, id: usize) -> io::Result<()> {
     match table.name(id) {
@@ -122,7 +97,7 @@ fn print_sum(rt: &LibcRuntime, filled: Filled, entries: usize) -> io::Result<()>
 
 // Prints a log; false, and a line on standard error, where it cannot be read as one.
 pub(super) fn dump(rt: &LibcRuntime, path: &str) -> io::Result<bool> {
-    let Some(image) = read_log(rt, path)? else {
+    let Some(image) = read_log(rt, path, false)? else {
         return Ok(false);
     };
     let mut table = DepsTable::new(rt.alloc())?;

@@ -1,13 +1,16 @@
 // The program: reads its arguments, and does what they ask.
 mod dump;
+mod files;
+mod find;
 mod shown;
 
 use dump::dump;
+use find::find;
 use std::env;
 use std::io;
 
-const USAGE: &str =
-    "usage: hefnwyrad dump LOG    print each record of a deps log, its entries, and a tail that cannot be read";
+const USAGE: &str = "usage: hefnwyrad dump LOG           print each record of a deps log, its entries, and a tail that cannot be read
+       hefnwyrad find LOG OUTPUT    print the mtime and the inputs of an output's entry";
 
 // What was asked could not be done; a line on standard error has said why.
 #[derive(Debug, Drop)]
@@ -24,6 +27,7 @@ fn run(rt: &LibcRuntime) -> io::Result<bool> {
             Ok(true)
         }
         [word, log] if word.as_str() == "dump" => dump(rt, log.as_str()),
+        [word, log, output] if word.as_str() == "find" => find(rt, log.as_str(), output.as_str()),
         _ => {
             eprintln!(rt, "{USAGE}")?;
             Ok(false)

@@ -1,6 +1,6 @@
 #!/usr/bin/env bash
 # Runs the program on the example logs and on files that are no logs, and compares what it prints and its status with what is stored.
-# Usage: scripts/try-dump.sh [--write]    (with --write, what it prints is stored)
+# Usage: scripts/try-program.sh [--write]    (with --write, what it prints is stored)
 set -euo pipefail
 cd "$(dirname "$0")/.."
 ./hefnwyrad > /dev/null
@@ -15,6 +15,7 @@ name = b"n" * 121 + b"\0" * 3
 open(sys.argv[1], "wb").write(b"# ninjadeps\n" + struct.pack("<II", 4, len(name) + 4) + name + struct.pack("<I", 0xFFFFFFFF))
 P
 program=$PWD/target/bin/hefnwyrad
+examples=$PWD/examples
 cp examples/*.deps "$scratch"
 one() {
     echo "\$ hefnwyrad $*"
@@ -31,9 +32,18 @@ all() (
         one dump "$log.deps"
     done
     one dump .
+    one find tiny.deps a.o
+    one find tiny.deps a.c
+    one find tiny.deps b.o
+    one find cut.deps a.o
+    one find ninja.deps laser.o
+    one find missing.deps a.o
+    one find fifteen.deps a.o
+    one find tiny.deps ''
+    cmp tiny.deps "$examples/tiny.deps" && cmp cut.deps "$examples/cut.deps" && echo "the logs are as they were"
 )
 if [ "${1:-}" = --write ]; then
-    all > examples/dump.expected
+    all > examples/expected
 else
-    all | diff examples/dump.expected - && echo "the program prints what is stored"
+    all | diff examples/expected - && echo "the program prints what is stored"
 fi

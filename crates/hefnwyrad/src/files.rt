@@ -7,11 +7,18 @@ use std::io::ErrorKind;
 pub(super) const LONGEST: usize = 65_536;
 
 // The bytes of a file; none, and a line on standard error, where they cannot be had. A missing file has no bytes where it may be missing.
-pub(super) fn read_log(rt: &LibcRuntime, path: &str, may_miss: bool) -> io::Result<Option<Vec<u8>>> {
+pub(super) fn read_log(
+    rt: &LibcRuntime,
+    path: &str,
+    may_miss: bool,
+) -> io::Result<Option<Vec<u8>>> {
     let bytes = match fs::metadata(rt, path) {
         Ok(about) if about.len() > LONGEST as u64 => {
             let len = about.len();
-            eprintln!(rt, "hefnwyrad: {path}: has {len} bytes, more than the {LONGEST} of a log")?;
+            eprintln!(
+                rt,
+                "hefnwyrad: {path}: has {len} bytes, more than the {LONGEST} of a log"
+            )?;
             return Ok(None);
         }
         Ok(_) => fs::read(rt, path),

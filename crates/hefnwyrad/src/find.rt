@@ -19,7 +19,10 @@ fn print_refusal(rt: &LibcRuntime, path: &str, call: &str, refusal: Refusal) -> 
     let number = refusal.number();
     let place = refusal.place();
     let text = refusal_text(refusal);
-    eprintln!(rt, "hefnwyrad: {path}: {call} refused {number} at {place} ({text})")
+    eprintln!(
+        rt,
+        "hefnwyrad: {path}: {call} refused {number} at {place} ({text})"
+    )
 }
 
 fn print_tail(rt: &LibcRuntime, opened: Opened) -> io::Result<()> {
@@ -27,12 +30,20 @@ fn print_tail(rt: &LibcRuntime, opened: Opened) -> io::Result<()> {
         let offset = tail.offset;
         let number = tail.value.number();
         let text = cause_text(tail.value);
-        println!(rt, "tail at {offset} would be dropped, cause {number}: {text}")?;
+        println!(
+            rt,
+            "tail at {offset} would be dropped, cause {number}: {text}"
+        )?;
     }
     Ok(())
 }
 
-fn print_found<M: Medium>(rt: &LibcRuntime, log: &Log<M>, output: &[u8], found: Option<Found>) -> io::Result<()> {
+fn print_found<M: Medium>(
+    rt: &LibcRuntime,
+    log: &Log<M>,
+    output: &[u8],
+    found: Option<Found>,
+) -> io::Result<()> {
     let Some(found) = found else {
         return println!(rt, "find {}: none", Shown(output));
     };
@@ -47,7 +58,12 @@ fn print_found<M: Medium>(rt: &LibcRuntime, log: &Log<M>, output: &[u8], found: 
 }
 
 // Opens a log on a medium, and prints what it finds.
-fn find_on<M: Medium + Drop>(rt: &LibcRuntime, path: &str, medium: M, output: &[u8]) -> io::Result<bool> {
+fn find_on<M: Medium + Drop>(
+    rt: &LibcRuntime,
+    path: &str,
+    medium: M,
+    output: &[u8],
+) -> io::Result<bool> {
     let mut copy = vec![in rt.alloc(); 0u8; LONGEST]?;
     let mut log = Log::new(rt.alloc(), medium)?;
     match log.open(&mut copy) {

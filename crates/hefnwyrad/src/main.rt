@@ -9,7 +9,8 @@ use find::find;
 use std::env;
 use std::io;
 
-const USAGE: &str = "usage: hefnwyrad dump LOG           print each record of a deps log, its entries, and a tail that cannot be read
+const USAGE: &str =
+    "usage: hefnwyrad dump LOG           print each record of a deps log, its entries, and a tail that cannot be read
        hefnwyrad find LOG OUTPUT    print the mtime and the inputs of an output's entry";
 
 // What was asked could not be done; a line on standard error has said why.

@@ -23,11 +23,11 @@ use Rattle.image.proofs.Back.{reads-back, next-behind, record-least}
 use Rattle.image.proofs.Fills.{next-id, scan-end, fill-good, fill-stop}
 
 -- a writable record is within the limits
-within-limits : (known : List (List ℕ)) (r : Record) → Writable known r → isOver (length known) r ≡ false
+pub within-limits : (known : List (List ℕ)) (r : Record) → Writable known r → isOver (length known) r ≡ false
 within-limits known (path name) w = or-from (ltb 120 (length name)) (leb 256 (length known)) (le-ltb 120 (length name) (name-parts name (w .0) .short)) (lt-leb 256 (length known) (w .2))
 within-limits known (deps output mtime inputs) w = le-ltb 64 (length inputs) (w .2)
 
-drop-on : (image : List ℕ) (at : ℕ) (xs ys : List ℕ) → drop at image ≡ xs ++ ys → drop (at + length xs) image ≡ ys
+pub drop-on : (image : List ℕ) (at : ℕ) (xs ys : List ℕ) → drop at image ≡ xs ++ ys → drop (at + length xs) image ≡ ys
 drop-on image at xs ys e = sym (drop-drop (length xs) at image) ∙ ap (drop (length xs)) e ∙ drop-at xs ys (length xs) refl
 
 -- each record takes a turn, so turns for as many as there are suffice, and one more for the end

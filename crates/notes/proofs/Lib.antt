@@ -1,0 +1,13 @@
+pub mod Reach
+pub mod Written
+pub mod Places
+pub mod Keeping
+pub mod Entries
+pub mod Noting
+pub mod Wholes
+pub mod Cut
+pub mod LatestNoted
+pub mod Weights
+pub mod Refits
+pub mod Lengths
+pub mod Compacted

@@ -1,0 +1,95 @@
+-- The laws of noting and of recompacting. Assumes nothing.
+use mathlib.Core.Path.{_≡_}
+use mathlib.Core.Bool.{true}
+use mathlib.Core.List.{List, [], _∷_, _++_}
+use mathlib.Core.Logic.{_⊎_}
+use Prim.Native.Nat.{ℕ, _^_, _≤_, _<_}
+use lib.ListN.{length, take, getD}
+use Rattle.std.specs.declared.option.Option.the-variants.{Some, None}
+use Rattle.terms.specs.Lists.{every}
+use Rattle.image.specs.declared.cause.Cause.{Cause}
+use Rattle.image.specs.declared.cause.Cause.the-variants.{NoWord, TooLong}
+use Rattle.image.specs.Names.{isName}
+use Rattle.image.specs.Tables.{Table, bare}
+use Rattle.image.specs.Kept.{Kept}
+use Rattle.image.specs.Scans.{Scan, imageOf, hasHeader, scanned, known, goodBytes, overLimit}
+use Rattle.notes.specs.Notes.{Note, nameOf, byNames, entryOf, namesOf, noteBytes, noteTable, notesBytes, notesTable}
+use Rattle.notes.specs.Compacting.{entriesOf, compactBytes, compactTable}
+use Rattle.notes.specs.Latest.{latest}
+
+-- An image all of whose bytes are good: it begins with the header, its records are within the limits and reach to its end, none is bad, and what they tell is
+-- kept. So it is refused neither for its header nor for a limit.
+pub record Whole (image : List ℕ) : Type 0 where
+  pub headed : hasHeader image ≡ true
+  pub within : overLimit image ≡ None
+  pub reaches : scanned image .past ≡ length image
+  pub clean : scanned image .tail ≡ None
+  pub kept : Kept (known image)
+
+-- a note within the limits, where a table is known
+pub record Fitting (t : Table) (n : Note) : Type 0 where
+  pub named : every isName (namesOf n) ≡ true
+  pub few : length (n .says .inputs) ≤ 64
+  pub timed : n .says .mtime < 2 ^ 64
+  pub room : length (noteTable t n .names) ≤ 256
+
+-- notes one after the other, each within the limits
+abbrev pub AllFit : Table → List Note → Type 0
+AllFit t [] = Unit {0}
+AllFit t (n ∷ ns) = Fitting t n × AllFit (noteTable t n) ns
+
+-- An image is whole, and this table is what it tells.
+pub record Tells (image : List ℕ) (t : Table) : Type 0 where
+  pub whole : Whole image
+  pub table : known image ≡ t
+
+-- Reading what notes wrote gives back what they say: behind a whole image they leave a whole image, and the table that is meant.
+abbrev pub Notes-read-back : Type 0
+Notes-read-back = (image : List ℕ) (ns : List Note) → Whole image → AllFit (known image) ns →
+    Tells (image ++ notesBytes (known image) ns) (notesTable (known image) ns)
+
+-- The good bytes of an image that is refused neither for its header nor for a limit are whole, and tell the same.
+abbrev pub Mending-keeps : Type 0
+Mending-keeps = (live : List ℕ) → hasHeader (imageOf live) ≡ true → overLimit live ≡ None → Kept (known live) → Tells (goodBytes live) (known live)
+
+-- What ends a scan of so many bytes: nothing is left, or a tail whose record is bad by the first or the second cause.
+abbrev pub Ends : Scan → ℕ → Type 0
+Ends s len = ((s .past ≡ len) × (s .tail ≡ None)) ⊎ ((s .past < len) × (c : Cause) × ((c ≡ NoWord) ⊎ (c ≡ TooLong)) × (s .tail ≡ Some (record { offset = s .past; value = c })))
+
+-- What is left of notes behind a whole image that were cut behind their k-th byte: the entries of some first part of them, with every note all of whose bytes are
+-- left; the rest leaves a tail; and mended, the image is whole again.
+pub record Cuts (image : List ℕ) (ns : List Note) (k : ℕ) : Type 0 where
+  pub count : ℕ
+  pub part : count ≤ length ns
+  pub safe : (m : ℕ) → m ≤ length ns → length (notesBytes (known image) (take m ns)) ≤ k → m ≤ count
+  pub same : (output : List ℕ) → entryOf (known (image ++ take k (notesBytes (known image) ns))) output ≡ entryOf (notesTable (known image) (take count ns)) output
+  pub ends : Ends (scanned (image ++ take k (notesBytes (known image) ns))) (length (image ++ take k (notesBytes (known image) ns)))
+  pub mended : Tells (goodBytes (image ++ take k (notesBytes (known image) ns))) (known (image ++ take k (notesBytes (known image) ns)))
+
+abbrev pub Cut-anywhere : Type 0
+Cut-anywhere = (image : List ℕ) (ns : List Note) (k : ℕ) → Whole image → AllFit (known image) ns → Cuts image ns k
+
+-- A log's entries are the latest of the notes made in it.
+abbrev pub Latest-noted : Type 0
+Latest-noted = (ns : List Note) → AllFit bare ns → (output : List ℕ) → entryOf (notesTable bare ns) output ≡ latest ns output
+
+-- An output's entry is the one that stands at its id.
+abbrev pub ById : Table → Type 0
+ById t = (id : ℕ) → id < length (t .names) → entryOf t (nameOf t id) ≡ byNames t (getD (t .entries) id None)
+
+-- A recompacted image tells its table, and has the same entries and no others. Recompacted again, it has as many bytes; they may be others, since an input may
+-- have come before an output.
+pub record Compacts (t : Table) : Type 0 where
+  pub fits : AllFit bare (entriesOf t)
+  pub tells : Tells (compactBytes t) (compactTable t)
+  pub same : (output : List ℕ) → entryOf (compactTable t) output ≡ entryOf t output
+  pub noted : (output : List ℕ) → latest (entriesOf t) output ≡ entryOf t output
+  pub again : length (compactBytes (compactTable t)) ≡ length (compactBytes t)
+  pub placed : ById t
+
+abbrev pub Compaction : Type 0
+Compaction = (t : Table) → Kept t → Compacts t
+
+-- Notes keep what every table keeps.
+abbrev pub Noting-keeps : Type 0
+Noting-keeps = (t : Table) (ns : List Note) → Kept t → AllFit t ns → Kept (notesTable t ns)

@@ -1,0 +1,4 @@
+pub mod Notes
+pub mod Compacting
+pub mod Latest
+pub mod Laws

@@ -1,4 +1,7 @@
 pub mod Inputs
+pub mod Cuts
+pub mod Freshly
+pub mod Sayings
 pub mod Opens
 pub mod Faults
 pub mod OpenCases

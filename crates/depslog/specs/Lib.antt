@@ -3,3 +3,5 @@ pub mod Checks
 pub mod Replacing
 pub mod Calls
 pub mod Opening
+pub mod Noting
+pub mod FreshNames

@@ -1,9 +1,13 @@
 // The log on any medium.
 mod calls;
+mod finding;
+mod fresh;
 mod log;
+mod names;
 mod opened;
 mod opening;
 mod replace;
+mod saying;
 
 pub use log::Log;
 pub use opened::Opened;

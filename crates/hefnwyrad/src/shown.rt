@@ -46,5 +46,8 @@ pub(super) fn refusal_text(refusal: Refusal) -> &'static str {
             "the record there is over a limit: 120 bytes of a name, 256 paths, 64 inputs",
         Refusal::CopyShort(_) => "the copy buffer is shorter than the live bytes",
         Refusal::NotName(_) => "the name is empty, has more than 120 bytes, or holds a zero byte",
+        Refusal::Outside(_) => "the place is outside the bytes",
+        Refusal::TooManyInputs => "there are more than 64 inputs",
+        Refusal::TooManyPaths => "more than 256 paths would be known",
     }
 }

@@ -1,7 +1,7 @@
 -- The number and the place of each refusal. Assumes nothing.
 use Prim.Native.Nat.{ℕ}
 use Rattle.terms.specs.declared.Refusal.{Refusal}
-use Rattle.terms.specs.declared.Refusal.the-variants.{PowerOff, PowerLost, Full, Closed, AlreadyOpen, NoHeader, OverLimit, CopyShort, NotName}
+use Rattle.terms.specs.declared.Refusal.the-variants.{PowerOff, PowerLost, Full, Closed, AlreadyOpen, NoHeader, OverLimit, CopyShort, NotName, Outside, TooManyInputs, TooManyPaths}
 
 abbrev pub numberAndPlace : Refusal → ℕ × ℕ
 numberAndPlace PowerOff = (1, 0)
@@ -13,6 +13,9 @@ numberAndPlace NoHeader = (5, 0)
 numberAndPlace (OverLimit offset) = (6, offset)
 numberAndPlace (CopyShort length) = (7, length)
 numberAndPlace (NotName index) = (8, index)
+numberAndPlace (Outside index) = (9, index)
+numberAndPlace TooManyInputs = (10, 64)
+numberAndPlace TooManyPaths = (11, 0)
 
 abbrev pub numberOf : Refusal → ℕ
 numberOf r = numberAndPlace r .0

@@ -44,6 +44,12 @@ pub enum Refusal {
     CopyShort(usize),
     // The name with this index is empty, has more than 120 bytes, or holds a zero.
     NotName(usize),
+    // The place with this index is outside the bytes.
+    Outside(usize),
+    // There are more than 64 inputs.
+    TooManyInputs,
+    // More than 256 paths would be known.
+    TooManyPaths,
 }
 
 impl Refusal {
@@ -59,6 +65,9 @@ impl Refusal {
             Refusal::OverLimit(_) => 6,
             Refusal::CopyShort(_) => 7,
             Refusal::NotName(_) => 8,
+            Refusal::Outside(_) => 9,
+            Refusal::TooManyInputs => 10,
+            Refusal::TooManyPaths => 11,
         }
     }
 
@@ -69,7 +78,8 @@ impl Refusal {
             Refusal::PowerLost => 1,
             Refusal::OverLimit(offset) => offset,
             Refusal::CopyShort(length) => length,
-            Refusal::NotName(index) => index,
+            Refusal::NotName(index) | Refusal::Outside(index) => index,
+            Refusal::TooManyInputs => 64,
             _ => 0,
         }
     }

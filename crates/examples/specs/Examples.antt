@@ -8,6 +8,7 @@ use lib.ListN.{length, take, replicate}
 use Rattle.std.specs.declared.option.Option.the-variants.{Some, None}
 use Rattle.std.specs.declared.result.Result.{Result}
 use Rattle.std.specs.declared.result.Result.the-variants.{Ok, Err}
+use Rattle.std.specs.shelf.Text.{sameBytes}
 use Rattle.terms.specs.declared.Refusal.{Refusal}
 use Rattle.terms.specs.declared.Refusal.the-variants.{NoHeader, OverLimit}
 use Rattle.terms.specs.Refusals.{numberAndPlace}
@@ -18,6 +19,9 @@ use Rattle.image.specs.Bytes.{Record, path, deps, header, recordsBytes}
 use Rattle.image.specs.Reading.{causeNumber}
 use Rattle.image.specs.Tables.{Table, bare}
 use Rattle.image.specs.Scans.{known, goodBytes, isOver, filled}
+use Rattle.notes.specs.Notes.{Note, entryOf, noteBytes, noteTable, notesTable}
+use Rattle.notes.specs.Compacting.{compactBytes, compactTable}
+use Rattle.notes.specs.Latest.{latest}
 
 -- output a.o with mtime 7 and the inputs a.c and ab.h
 abbrev pub first : List Record
@@ -31,6 +35,24 @@ table76 = record {
   names = codes "a.o" ∷ codes "a.c" ∷ codes "ab.h" ∷ [];
   entries = Some (record { mtime = 7; inputs = 1 ∷ 2 ∷ [] }) ∷ None ∷ None ∷ [];
 }
+
+-- the same, as a note, and another one later
+abbrev pub note7 : Note
+note7 = record { output = codes "a.o"; says = record { mtime = 7; inputs = codes "a.c" ∷ codes "ab.h" ∷ [] } }
+
+abbrev pub note9 : Note
+note9 = record { output = codes "a.o"; says = record { mtime = 9; inputs = codes "a.c" ∷ [] } }
+
+abbrev pub image96 : List ℕ
+image96 = image76 ++ noteBytes table76 note9
+
+-- an output made at 5
+abbrev pub made : List ℕ → List (List ℕ) → Note
+made output inputs = record { output = output; says = record { mtime = 5; inputs = inputs } }
+
+-- a, c and b are noted, and then a again, from b
+abbrev pub moved : Table
+moved = notesTable bare (made (codes "a") [] ∷ made (codes "c") [] ∷ made (codes "b") [] ∷ made (codes "a") (codes "b" ∷ []) ∷ [])
 
 -- the same names, and no entry
 abbrev pub table52 : Table
@@ -66,3 +88,17 @@ pub record Examples : Type 0 where
   pub path-257th : isOver 256 (path (codes "a")) ≡ true
   pub inputs-64 : isOver 1 (deps 0 7 (zeros 64)) ≡ false
   pub inputs-65 : isOver 1 (deps 0 7 (zeros 65)) ≡ true
+  pub noted-new : header ++ noteBytes bare note7 ≡ image76
+  pub noted-table : noteTable bare note7 ≡ table76
+  pub noted-again : noteBytes table76 note7 ≡ []
+  pub noted-known : noteBytes table76 note9 ≡ recordsBytes 3 (deps 0 9 (1 ∷ []) ∷ [])
+  pub noted-length : length image96 ≡ 96
+  pub noted-read : filled image96 ≡ (Ok (record { records = 5; length = 96; tail = None }), noteTable table76 note9)
+  pub noted-entry : entryOf (known image96) (codes "a.o") ≡ Some (note9 .says)
+  pub noted-latest : latest (note7 ∷ note9 ∷ []) (codes "a.o") ≡ Some (note9 .says)
+  pub compacted-length : length (compactBytes (known image96)) ≡ 60
+  pub compacted-bytes : compactBytes (known image96) ≡ header ++ recordsBytes 0 (path (codes "a.o") ∷ path (codes "a.c") ∷ deps 0 9 (1 ∷ []) ∷ [])
+  pub compacted-read : known (compactBytes (known image96)) ≡ compactTable (known image96)
+  pub compacted-again : compactBytes (compactTable (known image96)) ≡ compactBytes (known image96)
+  pub moved-bytes : sameBytes (compactBytes (compactTable moved)) (compactBytes moved) ≡ false
+  pub moved-length : length (compactBytes (compactTable moved)) ≡ length (compactBytes moved)

@@ -2,8 +2,8 @@
 use mathlib.Core.Path.{_≡_, refl, sym, ap, _∙_}
 use mathlib.Core.Bool.{true}
 use mathlib.Core.Logic.{_⊎_, inl, inr}
-use mathlib.Core.List.{List, [], _∷_, _++_}
-use Prim.Native.Nat.{ℕ, _+_, _≤_}
+use mathlib.Core.List.{List, [], _∷_}
+use Prim.Native.Nat.{ℕ}
 use native.Mathlib.Omega.{arith}
 use lib.ListN.{length}
 use Rattle.std.specs.declared.option.Option.{Option}
@@ -37,7 +37,7 @@ header-whole = record { headed = refl; within = refl; reaches = refl; clean = re
 
 module _ (t : Table) (k : Kept t) where
   compact-same : (output : List ℕ) → entryOf (compactTable t) output ≡ entryOf t output
-  compact-same output = latest-noted (entriesOf t) (compact-fits t k) output ∙ entries-noted t output
+  compact-same output = sym (latest-noted (entriesOf t) (compact-fits t k) output) ∙ entries-noted t output
 
   compact-kept : Kept (compactTable t)
   compact-kept = noting-keeps bare (entriesOf t) bare-kept (compact-fits t k)

@@ -1,6 +1,6 @@
 -- Notes that were cut anywhere have the entries of a first part of them. Assumes nothing.
 use mathlib.Core.Path.{_≡_, refl, sym, ap, subst, _∙_}
-use mathlib.Core.Bool.{true, false}
+use mathlib.Core.Bool.{false}
 use mathlib.Core.Logic.{_⊎_, inl, inr}
 use mathlib.Core.List.{List, [], _∷_, _++_}
 use Prim.Native.Nat.{ℕ, zero, suc, _+_, _-_, _<_, _≤_}
@@ -8,7 +8,7 @@ use native.Mathlib.Omega.{arith}
 use lib.ListN.{length, take, drop}
 use lib.Seq.{take-nil}
 use Rattle.std.specs.declared.option.Option.the-variants.{Some, None}
-use Rattle.std.proofs.shelf.Lists.{length-append, length-drop, append-nil, drop-at, drop-all, take-append-le, take-append-drop}
+use Rattle.std.proofs.shelf.Lists.{length-append, length-drop, drop-at, drop-all, take-append-le, take-append-drop}
 use Rattle.std.proofs.shelf.Tests.{cases-lt}
 use Rattle.terms.specs.declared.At.{At}
 use Rattle.image.specs.declared.cause.Cause.{Cause}
@@ -18,15 +18,16 @@ use Rattle.image.specs.Reading.{Reading, end, bad, readFront}
 use Rattle.image.specs.Tables.{Table, bare, learnAll}
 use Rattle.image.specs.Kept.{Kept}
 use Rattle.image.specs.Laws.{AllWritable}
-use Rattle.image.specs.Scans.{Scan, scanned, known, goodBytes, firstOver, hasHeader, imageOf}
+use Rattle.image.specs.Scans.{Scan, scanned, known, firstOver, hasHeader}
 use Rattle.image.proofs.Readings.{isGood}
 use Rattle.image.proofs.WholeImage.{drop-on}
 use Rattle.notes.specs.Notes.{Note, entryOf, noteRecords, noteBytes, noteTable, notesBytes, notesTable}
-use Rattle.notes.specs.Laws.{Whole, Tells, AllFit, Ends, Cuts, Cut-anywhere}
+use Rattle.notes.specs.Laws.{AllFit, Ends, Cut-anywhere}
 use Rattle.notes.proofs.Reach.{Reach, here, reach-within, reach-stays, reach-on, tailOf}
 use Rattle.notes.proofs.Written.{placed, take-past, limits-written, limits-on, reach-written, Stops, CutAt, reach-cut}
 use Rattle.notes.proofs.Keeping.{front-writable, learnAll-kept}
 use Rattle.notes.proofs.Noting.{note-writable, note-kept, part-same}
+use Rattle.notes.proofs.LatestNoted.{agree-goes-on}
 use Rattle.notes.proofs.Wholes.{header-long, header-stays, image-is, whole-reach, reach-scanned, mending-keeps}
 
 -- What a cut leaves of notes ---------------------------------------------------------------------------------------------
@@ -153,6 +154,11 @@ stopped-by image t at h (inr (inr e)) = record {
   ends = inr (bad-inside image (t .names) at TooLong e, TooLong, inr refl, refl);
 }
 
+front-fits : (t : Table) (j : ℕ) (ns : List Note) → AllFit t ns → AllFit t (take j ns)
+front-fits t zero ns a = tt
+front-fits t (suc j) [] a = tt
+front-fits t (suc j) (n ∷ ns) a = (a .0, front-fits (noteTable t n) j ns (a .1))
+
 pub cut-anywhere : Cut-anywhere
 cut-anywhere image ns k w a =
     let t : Table = known image in
@@ -166,12 +172,17 @@ cut-anywhere image ns k w a =
     let st = stopped-by all (c .table) (c .past) (reach-within way (header-long all h) .1) (c .stops) in
     let s = reach-scanned all (old ++ c .records) (c .table) (c .past) (st .reading) h way (st .is) (st .isBad) in
     let e : known all ≡ c .table = ap (λ (x : Scan). x .table) s in
+    let part : List Note = take (c .count) ns in
+    let same : (output : List ℕ) → entryOf (known all) output ≡ entryOf (notesTable t part) output = λ output. ap (λ (u : Table). entryOf u output) e ∙ c .same output in
+    let o = ap (λ (x : Scan). firstOver 0 (x .records)) s ∙ limits-on (c .records) r (w .within) ∙ c .within in
     record {
       count = c .count;
       part = c .part;
       safe = c .safe;
-      same = λ output. ap (λ (u : Table). entryOf u output) e ∙ c .same output;
+      same = same;
+      agree = λ old g output. agree-goes-on t old part (w .kept) (front-fits t (c .count) ns a) g output ∙ sym (same output);
+      headed = h;
+      within = o;
       ends = subst (λ (x : Scan). Ends x (length all)) (sym s) (st .ends);
-      mended = mending-keeps all (ap hasHeader (image-is all h) ∙ h)
-          (ap (λ (x : Scan). firstOver 0 (x .records)) s ∙ limits-on (c .records) r (w .within) ∙ c .within) (subst Kept (sym e) (c .kept));
+      mended = mending-keeps all (ap hasHeader (image-is all h) ∙ h) o (subst Kept (sym e) (c .kept));
     }

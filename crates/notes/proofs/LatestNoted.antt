@@ -3,10 +3,9 @@ use mathlib.Core.Path.{_≡_, refl, sym, ap, _∙_}
 use mathlib.Core.Bool.{Bool, true, false, cond, _||_}
 use mathlib.Core.Logic.{_⊎_, inl, inr}
 use mathlib.Core.List.{List, [], _∷_, _++_}
-use Prim.Native.Nat.{ℕ, _+_, _<_}
+use Prim.Native.Nat.{ℕ, _+_}
 use native.Mathlib.Omega.{arith}
 use lib.Dec.{lit≤}
-use lib.ListN.{length, getD}
 use Rattle.std.specs.declared.option.Option.{Option}
 use Rattle.std.specs.declared.option.Option.the-variants.{Some, None}
 use Rattle.std.specs.shelf.Text.{sameBytes}
@@ -14,10 +13,10 @@ use Rattle.std.proofs.shelf.Tests.{cases-bool, or-left, cond-true, cond-false}
 use Rattle.terms.specs.Lists.{isIn}
 use Rattle.image.specs.Tables.{Table, bare}
 use Rattle.image.specs.Kept.{Kept}
-use Rattle.notes.specs.Notes.{Says, Note, nameOf, entryAt, entryOf, noteTable, notesTable}
+use Rattle.notes.specs.Notes.{Says, Note, entryAt, entryOf, noteTable, notesTable}
 use Rattle.notes.specs.Compacting.{noteOf, notesFor, entriesOf}
 use Rattle.notes.specs.Latest.{sayNow, latestAfter, latest}
-use Rattle.notes.specs.Laws.{AllFit, Latest-noted, ById}
+use Rattle.notes.specs.Laws.{AllFit, Latest-noted, Agree, Agree-goes-on, ById}
 use Rattle.notes.proofs.Places.{same-is, place-own}
 use Rattle.notes.proofs.Entries.{entry-none}
 use Rattle.notes.proofs.Noting.{note-kept, note-entry}
@@ -31,7 +30,15 @@ pub bare-kept : Kept bare
 bare-kept = record { few = lit≤ tt; named = refl; apart = refl; paired = refl; fitting = refl }
 
 pub latest-noted : Latest-noted
-latest-noted ns a output = latest-after bare ns bare-kept a output
+latest-noted ns a output = sym (latest-after bare ns bare-kept a output)
+
+latest-append : (x : Option Says) (output : List ℕ) (ms ns : List Note) → latestAfter x output (ms ++ ns) ≡ latestAfter (latestAfter x output ms) output ns
+latest-append x output [] ns = refl
+latest-append x output (m ∷ ms) ns = latest-append (sayNow x output m) output ms ns
+
+pub agree-goes-on : Agree-goes-on
+agree-goes-on t old ns k a g output =
+    latest-append None output old ns ∙ ap (λ (x : Option Says). latestAfter x output ns) (g output) ∙ sym (latest-after t ns k a output)
 
 -- A table's entries as notes ---------------------------------------------------------------------------------------------
 
@@ -63,13 +70,16 @@ module _ (t : Table) (o : List ℕ) where
             step-other x n (entryOf t n) (notesFor t ns) s ∙ latest-for x ns h ∙ ap (λ (b : Bool). cond (b || isIn o ns) (entryOf t o) x) (sym s)
       ]
 
-  pub entries-noted : latest (entriesOf t) o ≡ entryOf t o
-  entries-noted =
+  noted-for : latest (entriesOf t) o ≡ entryOf t o
+  noted-for =
       latest-for None (t .names) (inl refl) ∙
       elim (cases-bool (isIn o (t .names))) [
         | inl e ↦ cond-true (isIn o (t .names)) (entryOf t o) None e
         | inr e ↦ cond-false (isIn o (t .names)) (entryOf t o) None e ∙ sym (entry-none t o e)
       ]
+
+pub entries-noted : (t : Table) → Agree (entriesOf t) t
+entries-noted t output = noted-for t output
 
 pub by-id : (t : Table) → Kept t → ById t
 by-id t k id h = ap (entryAt t) (place-own 0 (t .names) id (k .apart) h ∙ ap Some (omega arith))

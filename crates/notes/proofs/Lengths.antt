@@ -1,9 +1,9 @@
 -- How many bytes a recompaction has. Assumes nothing.
-use mathlib.Core.Path.{_≡_, refl, sym, ap, subst, _∙_}
-use mathlib.Core.Bool.{true, false, cond, not}
-use mathlib.Core.Logic.{_⊎_, inl, inr}
+use mathlib.Core.Path.{_≡_, refl, sym, ap, _∙_}
+use mathlib.Core.Bool.{true, false, not}
+use mathlib.Core.Logic.{inl, inr}
 use mathlib.Core.List.{List, [], _∷_, _++_, map}
-use Prim.Native.Nat.{ℕ, _+_, _*_, _≤_}
+use Prim.Native.Nat.{ℕ, _+_, _*_}
 use native.Mathlib.Omega.{arith}
 use lib.ListN.{length}
 use Rattle.std.specs.declared.option.Option.{Option}
@@ -18,15 +18,13 @@ use Rattle.image.specs.Bytes.{path, deps, header, word, padded, checksum, recor
 use Rattle.image.specs.Tables.{Table, bare}
 use Rattle.image.specs.Kept.{distinct, Kept}
 use Rattle.image.proofs.Writes.{length-words}
-use Rattle.notes.specs.Notes.{Says, Note, entryOf, saysSame, unchanged, newNames, namesOf, extended, idIn, noteRecords, noteBytes, noteTable, notesBytes, notesTable}
+use Rattle.notes.specs.Notes.{Says, Note, entryOf, saysSame, unchanged, newNames, namesOf, extended, idIn, noteBytes, noteTable, notesBytes, notesTable}
 use Rattle.notes.specs.Compacting.{noteOf, notesFor, entriesOf, compactBytes, compactTable}
-use Rattle.notes.specs.Laws.{Whole, AllFit, Compacts, Compaction}
+use Rattle.notes.specs.Laws.{AllFit}
 use Rattle.notes.proofs.Places.{same-is, same-self}
 use Rattle.notes.proofs.Noting.{records-full, note-names, note-kept, note-entry}
-use Rattle.notes.proofs.Wholes.{notes-read-back, noting-keeps}
-use Rattle.notes.proofs.LatestNoted.{bare-kept, latest-noted, entries-noted, by-id}
-use Rattle.notes.proofs.Weights.{Covered, covered-all, sum-within, Within}
-use Rattle.notes.proofs.Refits.{entry-sound, compact-fits, compact-within}
+use Rattle.notes.proofs.LatestNoted.{bare-kept}
+use Rattle.notes.proofs.Refits.{compact-fits}
 
 -- Lengths ----------------------------------------------------------------------------------------------------------------
 

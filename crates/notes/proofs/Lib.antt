@@ -5,8 +5,8 @@ pub mod Keeping
 pub mod Entries
 pub mod Noting
 pub mod Wholes
-pub mod Cut
 pub mod LatestNoted
+pub mod Cut
 pub mod Weights
 pub mod Refits
 pub mod Lengths

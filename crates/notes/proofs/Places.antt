@@ -1,6 +1,6 @@
 -- Where names stand, and which are among some. Assumes nothing.
 use mathlib.Core.Path.{_≡_, refl, sym, ap, _∙_}
-use mathlib.Core.Bool.{Bool, true, false, cond, not, _&&_, _||_}
+use mathlib.Core.Bool.{Bool, true, false, cond, not, _||_}
 use mathlib.Core.Logic.{inl, inr}
 use mathlib.Core.List.{List, [], _∷_, _++_, map}
 use Prim.Native.Nat.{ℕ, zero, suc, _+_, _<_}
@@ -13,7 +13,6 @@ use Rattle.std.proofs.shelf.Equals.{sameBytes-decides}
 use Rattle.std.proofs.shelf.Tests.{false≢true, cases-bool, both-ways, and-parts, and-from, or-cases, or-parts, or-left, or-right, not-true, lt-ltb, cond-true, cond-false}
 use Rattle.terms.specs.Lists.{every, some, isIn, placeFrom, placeIn, _▷_}
 use Rattle.image.specs.Kept.{distinct}
-use Rattle.image.proofs.Tests.{other-way}
 use Rattle.notes.specs.Notes.{sameNames, idAt, idIn}
 
 pub same-self : (x : List ℕ) → sameBytes x x ≡ true

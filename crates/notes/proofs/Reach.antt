@@ -1,6 +1,6 @@
 -- The good records of an image, one after the other. Assumes nothing.
 use mathlib.Core.Path.{_≡_, refl, sym, ap, subst, _∙_}
-use mathlib.Core.Bool.{Bool, true, false}
+use mathlib.Core.Bool.{true, false}
 use mathlib.Core.List.{List, [], _∷_, _++_}
 use Prim.Native.Nat.{ℕ, zero, suc, _+_, _*_, _≤_}
 use native.Mathlib.Nat.{le-refl}
@@ -13,7 +13,7 @@ use Rattle.std.proofs.shelf.Lists.{length-append, length-drop, take-append-le, 
 use Rattle.std.proofs.shelf.Tests.{le-ltb, true≢false}
 use Rattle.terms.specs.declared.At.{At}
 use Rattle.image.specs.declared.cause.Cause.{Cause}
-use Rattle.image.specs.Bytes.{Record, path, deps}
+use Rattle.image.specs.Bytes.{Record}
 use Rattle.image.specs.Reading.{Reading, good, bad, end, wordAt, sizeOf, readBody, readFront, nextOffset}
 use Rattle.image.specs.Tables.{Table, learn}
 use Rattle.image.specs.Scans.{Scan, found, stopped, scan}

@@ -6,22 +6,19 @@ use Prim.Native.Nat.{ℕ, _+_, _-_, _≤_}
 use native.Mathlib.Nat.{le-refl}
 use native.Mathlib.Omega.{arith}
 use lib.ListN.{length, take, drop}
-use Rattle.std.specs.declared.option.Option.{Option}
 use Rattle.std.specs.declared.option.Option.the-variants.{None}
 use Rattle.std.specs.shelf.Text.{sameBytes}
 use Rattle.std.proofs.shelf.Lists.{length-append, length-take, length-take-le, take-append-drop, take-append-le, take-take, drop-at, drop-all, append-assoc, append-nil}
 use Rattle.std.proofs.shelf.Tests.{false≢true, cond-true}
 use Rattle.terms.specs.declared.At.{At}
-use Rattle.terms.specs.Lists.{empty}
-use Rattle.image.specs.declared.cause.Cause.{Cause}
 use Rattle.image.specs.Bytes.{Record, header}
 use Rattle.image.specs.Reading.{Reading, end, readFront}
 use Rattle.image.specs.Tables.{Table, bare}
 use Rattle.image.specs.Kept.{Kept}
-use Rattle.image.specs.Scans.{Scan, stopped, scan, imageOf, hasHeader, scanned, known, goodBytes, firstOver, overLimit}
+use Rattle.image.specs.Scans.{Scan, stopped, scan, imageOf, hasHeader, scanned, known, firstOver, overLimit}
 use Rattle.image.proofs.Readings.{isGood}
-use Rattle.notes.specs.Notes.{Note, noteRecords, noteBytes, noteTable, notesBytes, notesTable}
-use Rattle.notes.specs.Laws.{Whole, Tells, Fitting, AllFit, Notes-read-back, Mending-keeps, Noting-keeps}
+use Rattle.notes.specs.Notes.{noteRecords, noteBytes, noteTable, notesBytes, notesTable}
+use Rattle.notes.specs.Laws.{Whole, Tells, AllFit, Note-reads-back, Notes-read-back, Mending-keeps, Noting-keeps}
 use Rattle.notes.proofs.Places.{same-is}
 use Rattle.notes.proofs.Reach.{Reach, reach-within, reach-stays, reach-part, reach-on, reach-scan, tailOf, turns-are, scan-reach}
 use Rattle.notes.proofs.Written.{placed, limits-written, limits-on, reach-written}
@@ -77,7 +74,7 @@ whole-reach image w =
 
 -- Notes ------------------------------------------------------------------------------------------------------------------
 
-pub note-reads-back : (image : List ℕ) (n : Note) → Whole image → Fitting (known image) n → Tells (image ++ noteBytes (known image) n) (noteTable (known image) n)
+pub note-reads-back : Note-reads-back
 note-reads-back image n w f =
     let t : Table = known image in
     let more : List ℕ = noteBytes t n in

@@ -1,13 +1,15 @@
 // What a note and a recompaction write, and their laws.
-ghost use Rattle.notes.specs.Laws.{Notes-read-back, Noting-keeps, Cut-anywhere, Mending-keeps, Latest-noted, Compaction};
+ghost use Rattle.notes.specs.Laws.{Note-reads-back, Notes-read-back, Noting-keeps, Cut-anywhere, Mending-keeps, Latest-noted, Agree-goes-on, Compaction};
 
 // The laws of noting.
 pub fn laws_of_noting() -> u8
-    ensures reads_back { λ _. ⌜ Notes-read-back ⌝ }
+    ensures read_back { λ _. ⌜ Note-reads-back ⌝ }
+    ensures all_read_back { λ _. ⌜ Notes-read-back ⌝ }
     ensures keeps { λ _. ⌜ Noting-keeps ⌝ }
     ensures cut { λ _. ⌜ Cut-anywhere ⌝ }
     ensures mended { λ _. ⌜ Mending-keeps ⌝ }
     ensures latest { λ _. ⌜ Latest-noted ⌝ }
+    ensures agree { λ _. ⌜ Agree-goes-on ⌝ }
 {
     0
 }

@@ -30,6 +30,20 @@ pub enum Refusal {
     NoHeader,
     // The record at this offset is over a limit.
     OverLimit(usize),
+    // This line of the manifest is not understood.
+    ManifestLine(usize),
+    // This line of the manifest names a rule that is not declared above it, or declares one again.
+    RuleDeclared(usize),
+    // This line of the manifest has an output that is made already, or twice.
+    MadeTwice(usize),
+    // This line of the manifest or the listing is past a limit.
+    PastLimit(usize),
+    // This line of the listing is not understood, or its name was listed before.
+    ListingLine(usize),
+    // The statement in this line is the first on a cycle.
+    OnCycle(usize),
+    // The caller's memory is too short: this many elements are needed.
+    MemoryShort(usize),
 }
 
 impl Refusal {
@@ -39,6 +53,13 @@ impl Refusal {
         match self {
             Refusal::NoHeader => 5,
             Refusal::OverLimit(_) => 6,
+            Refusal::ManifestLine(_) => 14,
+            Refusal::RuleDeclared(_) => 15,
+            Refusal::MadeTwice(_) => 16,
+            Refusal::PastLimit(_) => 17,
+            Refusal::ListingLine(_) => 18,
+            Refusal::OnCycle(_) => 19,
+            Refusal::MemoryShort(_) => 20,
         }
     }
 
@@ -48,6 +69,13 @@ impl Refusal {
         match self {
             Refusal::NoHeader => 0,
             Refusal::OverLimit(offset) => offset,
+            Refusal::ManifestLine(line) => line,
+            Refusal::RuleDeclared(line) => line,
+            Refusal::MadeTwice(line) => line,
+            Refusal::PastLimit(line) => line,
+            Refusal::ListingLine(line) => line,
+            Refusal::OnCycle(line) => line,
+            Refusal::MemoryShort(need) => need,
         }
     }
 }

@@ -35,7 +35,7 @@ pub lex-at-short : (xs ys : List ℕ) (i : ℕ) → i < length xs → length ys 
 lex-at-short xs ys i h k = ap (λ zs. lexLe zs (drop i ys)) (drop-more xs i 0 h) ∙ ap (lexLe (getD xs i 0 ∷ drop (i + 1) xs)) (drop-all i ys k)
 
 -- two names are each at most the other exactly where they have the same bytes
-pub same-by-lex : (xs ys : List ℕ) → sameBytes xs ys ≡ sameBy lexLe xs ys
+same-by-lex : (xs ys : List ℕ) → sameBytes xs ys ≡ sameBy lexLe xs ys
 same-by-lex xs ys =
     elim (cases-bool (sameBytes xs ys)) [
       | inl t ↦ (let e : xs ≡ ys = sameBytes-decides xs ys .0 t in
@@ -46,3 +46,13 @@ same-by-lex xs ys =
         | inr g ↦ f ∙ sym g
       ]
     ]
+
+and-turned : (x y : Bool) → (x && y) ≡ (y && x)
+and-turned true true = refl
+and-turned true false = refl
+and-turned false true = refl
+and-turned false false = refl
+
+-- the same, with the asked name first
+pub asked-by-lex : (asked name : List ℕ) → sameBytes asked name ≡ sameBy lexLe name asked
+asked-by-lex asked name = same-by-lex asked name ∙ and-turned (lexLe asked name) (lexLe name asked)

@@ -59,7 +59,7 @@ pub struct Places<'a> {
 }
 
 pub impl<'a> Keys<Place, Name<'a>> for Places<'a> as PlaceKeys {
-    ghost has = { λ c x k. sameBytes (placed (pointee (c .bytes)) x) (pointee (k .bytes)) };
+    ghost has = { λ c x k. sameBytes (pointee (k .bytes)) (placed (pointee (c .bytes)) x) };
 
     fn key(&self, x: Place) -> Name<'a> {
         Name {
@@ -70,7 +70,7 @@ pub impl<'a> Keys<Place, Name<'a>> for Places<'a> as PlaceKeys {
 
 // The index of the first place where this name stands.
 pub fn find_name(bytes: &[u8], places: &[Place], name: &[u8]) -> Option<usize>
-    ensures { λ r. ⌜ r ≡ placeFrom 0 (λ x. sameBytes (placed (now (bytes .entry)) x) (now (name .entry))) (now (places .entry)) ⌝ }
+    ensures { λ r. ⌜ r ≡ placeFrom 0 (λ x. sameBytes (now (name .entry)) (placed (now (bytes .entry)) x)) (now (places .entry)) ⌝ }
 {
     first(&Places { bytes }, places, Name { bytes: name })
 }

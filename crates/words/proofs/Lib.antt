@@ -1,0 +1,4 @@
+pub mod Lexemes
+pub mod Spans
+pub mod Spells
+pub mod Walks

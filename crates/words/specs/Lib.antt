@@ -1,0 +1,6 @@
+pub mod Paths
+pub mod Runs
+pub mod Shown
+pub mod Spelling
+pub mod Steps
+pub mod Tokens

@@ -2,6 +2,7 @@ pub mod Inputs
 pub mod Cuts
 pub mod Freshly
 pub mod Sayings
+pub mod Appends
 pub mod Opens
 pub mod Faults
 pub mod OpenCases

@@ -5,3 +5,4 @@ pub mod Calls
 pub mod Opening
 pub mod Noting
 pub mod FreshNames
+pub mod Appending

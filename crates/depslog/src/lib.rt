@@ -8,6 +8,7 @@ mod opened;
 mod opening;
 mod replace;
 mod saying;
+mod writing;
 
 pub use log::Log;
 pub use opened::Opened;

@@ -118,11 +118,5 @@ pub(super) fn dump(rt: &LibcRuntime, path: &str) -> io::Result<bool> {
             )?;
             Ok(false)
         }
-        Err(refusal) => {
-            let number = refusal.number();
-            let place = refusal.place();
-            eprintln!(rt, "hefnwyrad: {path}: refused {number} at {place}")?;
-            Ok(false)
-        }
     }
 }

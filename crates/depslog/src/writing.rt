@@ -1,0 +1,44 @@
+// Appending the records of a note, each as an append of its own.
+ghost use mathlib.Core.Path.{_≡_};
+ghost use mathlib.Core.Bool.{true};
+ghost use Prim.Native.Nat.{_+_, _≤_};
+ghost use lib.ListN.{length};
+ghost use Rattle.image.specs.Names.{isName};
+ghost use Rattle.image.specs.Bytes.{path, deps, recordBytes};
+ghost use Rattle.image.specs.View.{entryOf};
+ghost use Rattle.depslog.specs.State.{liveOf};
+ghost use Rattle.depslog.specs.Appending.{AppendedAll};
+use image::DepsEntry;
+use image::Name;
+use image::write_deps;
+use image::write_path;
+use medium::Fault;
+use medium::Medium;
+
+// Appends the path record that gives a name this id.
+fn append_path<M: Medium>(medium: &mut M, id: u32, name: &[u8]) -> Result<(), Fault>
+    requires named { ⌜ isName (now name) ≡ true ⌝ }
+    requires room { ⌜ length (liveOf (M·Medium .state (now medium))) + length (recordBytes id (path (now name))) ≤ M·Medium .state (now medium) .capacity ⌝ }
+    ensures { λ r. ⌜ AppendedAll (recordBytes id (path (now (name .entry)))) (M·Medium .state (now (medium .entry))) r (M·Medium .state (now (medium .exit))) ⌝ }
+{
+    let mut record = [0u8; 128];
+    match Name::new(name) {
+        Some(name) => match write_path(&mut record, id, &name) {
+            Ok(n) => medium.append(&record[0..n]),
+            Err(_) => unreachable(),
+        },
+        None => unreachable(),
+    }
+}
+
+// Appends the deps record that gives the output with this id an entry.
+pub(super) fn append_deps<M: Medium>(medium: &mut M, output: u32, entry: &DepsEntry) -> Result<(), Fault>
+    requires { ⌜ length (liveOf (M·Medium .state (now medium))) + length (recordBytes 0 (deps output (entryOf (now entry) .mtime) (entryOf (now entry) .inputs))) ≤ M·Medium .state (now medium) .capacity ⌝ }
+    ensures { λ r. ⌜ AppendedAll (recordBytes 0 (deps output (entryOf (now (entry .entry)) .mtime) (entryOf (now (entry .entry)) .inputs))) (M·Medium .state (now (medium .entry))) r (M·Medium .state (now (medium .exit))) ⌝ }
+{
+    let mut record = [0u8; 272];
+    match write_deps(&mut record, output, entry) {
+        Ok(n) => medium.append(&record[0..n]),
+        Err(_) => unreachable(),
+    }
+}

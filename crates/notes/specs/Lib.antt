@@ -1,4 +1,5 @@
 pub mod Notes
+pub mod Meant
 pub mod Compacting
 pub mod Latest
 pub mod Laws

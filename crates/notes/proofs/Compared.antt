@@ -9,7 +9,7 @@ use Rattle.std.specs.declared.option.Option.the-variants.{Some, None}
 use Rattle.std.specs.shelf.Maps.{nth}
 use Rattle.std.specs.shelf.Text.{sameBytes}
 use Rattle.std.proofs.shelf.Lists.{drop-more, drop-all}
-use Rattle.std.proofs.shelf.Tests.{and-left, and-right}
+use Rattle.std.proofs.shelf.Tests.{and-right}
 use Rattle.notes.specs.Notes.{sameNames}
 
 -- the name with an id that is known, and with one that is not

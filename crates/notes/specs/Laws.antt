@@ -1,19 +1,21 @@
 -- The laws of noting and of recompacting. Assumes nothing.
 use mathlib.Core.Path.{_≡_}
-use mathlib.Core.Bool.{true}
+use mathlib.Core.Bool.{true, false}
 use mathlib.Core.List.{List, [], _∷_, _++_}
 use mathlib.Core.Logic.{_⊎_}
-use Prim.Native.Nat.{ℕ, _^_, _≤_, _<_}
+use Prim.Native.Nat.{ℕ, _+_, _*_, _^_, _≤_, _<_}
 use lib.ListN.{length, take, getD}
 use Rattle.std.specs.declared.option.Option.the-variants.{Some, None}
+use Rattle.std.specs.shelf.Lists.{sumBy}
 use Rattle.terms.specs.Lists.{every}
 use Rattle.image.specs.declared.cause.Cause.{Cause}
 use Rattle.image.specs.declared.cause.Cause.the-variants.{NoWord, TooLong}
 use Rattle.image.specs.Names.{isName}
+use Rattle.image.specs.Bytes.{padded}
 use Rattle.image.specs.Tables.{Table, bare}
 use Rattle.image.specs.Kept.{Kept}
 use Rattle.image.specs.Scans.{Scan, imageOf, hasHeader, scanned, known, goodBytes, overLimit}
-use Rattle.notes.specs.Notes.{Note, nameOf, byNames, entryOf, namesOf, noteBytes, noteTable, notesBytes, notesTable}
+use Rattle.notes.specs.Notes.{Note, nameOf, byNames, entryOf, unchanged, newNames, namesOf, extended, noteBytes, noteTable, notesBytes, notesTable}
 use Rattle.notes.specs.Compacting.{entriesOf, compactBytes, compactTable}
 use Rattle.notes.specs.Latest.{latest}
 
@@ -50,6 +52,22 @@ Note-reads-back = (image : List ℕ) (n : Note) → Whole image → Fitting (kno
 -- So it is with notes one after the other.
 abbrev pub Notes-read-back : Type 0
 Notes-read-back = (image : List ℕ) (ns : List Note) → Whole image → AllFit (known image) ns → Tells (image ++ notesBytes (known image) ns) (notesTable (known image) ns)
+
+-- the bytes of a name's path record, and those of a deps record with so many inputs
+abbrev pub pathLength : List ℕ → ℕ
+pathLength name = length (padded name) + 8
+
+abbrev pub depsLength : ℕ → ℕ
+depsLength inputs = 16 + 4 * inputs
+
+-- What a note adds: nothing, where the entry says the same already; otherwise the names that were unknown, with a path record each, and a deps record.
+pub record Adds (t : Table) (n : Note) : Type 0 where
+  pub nothing : unchanged t n ≡ true → (noteBytes t n ≡ []) × (noteTable t n ≡ t)
+  pub names : unchanged t n ≡ false → noteTable t n .names ≡ extended (t .names) n
+  pub bytes : unchanged t n ≡ false → length (noteBytes t n) ≡ sumBy pathLength (newNames (t .names) (namesOf n)) + depsLength (length (n .says .inputs))
+
+abbrev pub Note-adds : Type 0
+Note-adds = (t : Table) (n : Note) → Adds t n
 
 -- Notes keep what every table keeps.
 abbrev pub Noting-keeps : Type 0

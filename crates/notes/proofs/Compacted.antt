@@ -17,7 +17,8 @@ use Rattle.image.specs.Tables.{Table, bare}
 use Rattle.image.specs.Kept.{Kept}
 use Rattle.notes.specs.Notes.{Says, entryOf}
 use Rattle.notes.specs.Compacting.{entriesOf, compactBytes, compactTable}
-use Rattle.notes.specs.Laws.{Whole, pathLength, Compaction}
+use Rattle.notes.specs.Wholeness.{Whole}
+use Rattle.notes.specs.Laws.{pathLength, Compaction}
 use Rattle.notes.proofs.Wholes.{notes-read-back, noting-keeps}
 use Rattle.notes.proofs.LatestNoted.{bare-kept, latest-noted, entries-noted, by-id}
 use Rattle.notes.proofs.Weights.{Covered, covered-all, sum-within, Within}

@@ -20,7 +20,8 @@ use Rattle.image.specs.Kept.{distinct, Kept}
 use Rattle.image.proofs.Writes.{length-words}
 use Rattle.notes.specs.Notes.{Says, Note, entryOf, saysSame, unchanged, newNames, namesOf, extended, idIn, noteBytes, noteTable, notesBytes, notesTable}
 use Rattle.notes.specs.Compacting.{noteOf, notesFor, entriesOf, compactBytes, compactTable}
-use Rattle.notes.specs.Laws.{AllFit, pathLength, depsLength, Note-adds}
+use Rattle.notes.specs.Wholeness.{AllFit}
+use Rattle.notes.specs.Laws.{pathLength, depsLength, Note-adds}
 use Rattle.notes.proofs.Places.{same-is, same-self}
 use Rattle.notes.proofs.Noting.{records-none, records-full, note-names, note-kept, note-entry}
 use Rattle.notes.proofs.LatestNoted.{bare-kept}

@@ -2,4 +2,5 @@ pub mod Notes
 pub mod Meant
 pub mod Compacting
 pub mod Latest
+pub mod Wholeness
 pub mod Laws

@@ -17,12 +17,13 @@ use Rattle.image.specs.Tables.{Table, bare}
 use Rattle.image.specs.Kept.{Kept}
 use Rattle.notes.specs.Notes.{Says, entryOf}
 use Rattle.notes.specs.Compacting.{entriesOf, compactBytes, compactTable}
-use Rattle.notes.specs.Laws.{Whole, Compaction}
+use Rattle.notes.specs.Wholeness.{Whole}
+use Rattle.notes.specs.Laws.{pathLength, Compaction}
 use Rattle.notes.proofs.Wholes.{notes-read-back, noting-keeps}
 use Rattle.notes.proofs.LatestNoted.{bare-kept, latest-noted, entries-noted, by-id}
 use Rattle.notes.proofs.Weights.{Covered, covered-all, sum-within, Within}
 use Rattle.notes.proofs.Refits.{entry-sound, compact-fits, compact-within}
-use Rattle.notes.proofs.Lengths.{pathSize, entrySize, sizeIn, compact-length}
+use Rattle.notes.proofs.Lengths.{entrySize, sizeIn, compact-length}
 
 sums-same : (f g : List ℕ → ℕ) (xs : List (List ℕ)) → ((x : List ℕ) → f x ≡ g x) → sumBy f xs ≡ sumBy g xs
 sums-same f g [] h = refl
@@ -74,7 +75,7 @@ compact-again t k =
     let ku = compact-kept t k in
     let kv = compact-kept u ku in
     let w : Within (v .names) (u .names) = compact-within (v .names) t (λ o s e. entry-sound v kv o s (compact-same u ku o ∙ compact-same t k o ∙ e) .inside) in
-    omega (arith, compact-length t k, compact-length u ku, sizes-again t k, sums-both pathSize (u .names) (v .names) w (compact-inside u ku))
+    omega (arith, compact-length t k, compact-length u ku, sizes-again t k, sums-both pathLength (u .names) (v .names) w (compact-inside u ku))
 
 pub compaction : Compaction
 compaction t k = record {

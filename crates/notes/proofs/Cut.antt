@@ -22,7 +22,8 @@ use Rattle.image.specs.Scans.{Scan, scanned, known, firstOver, hasHeader}
 use Rattle.image.proofs.Readings.{isGood}
 use Rattle.image.proofs.WholeImage.{drop-on}
 use Rattle.notes.specs.Notes.{Note, entryOf, noteRecords, noteBytes, noteTable, notesBytes, notesTable}
-use Rattle.notes.specs.Laws.{AllFit, Ends, Cut-anywhere}
+use Rattle.notes.specs.Wholeness.{AllFit}
+use Rattle.notes.specs.Laws.{Ends, Cut-anywhere}
 use Rattle.notes.proofs.Reach.{Reach, here, reach-within, reach-stays, reach-on, tailOf}
 use Rattle.notes.proofs.Written.{placed, take-past, limits-written, limits-on, reach-written, Stops, CutAt, reach-cut}
 use Rattle.notes.proofs.Keeping.{front-writable, learnAll-kept}

@@ -16,7 +16,8 @@ use Rattle.image.specs.Kept.{Kept}
 use Rattle.notes.specs.Notes.{Says, Note, entryAt, entryOf, noteTable, notesTable}
 use Rattle.notes.specs.Compacting.{noteOf, notesFor, entriesOf}
 use Rattle.notes.specs.Latest.{sayNow, latestAfter, latest}
-use Rattle.notes.specs.Laws.{AllFit, Latest-noted, Agree, Agree-goes-on, ById}
+use Rattle.notes.specs.Wholeness.{AllFit, Agree}
+use Rattle.notes.specs.Laws.{Latest-noted, Agree-goes-on, ById}
 use Rattle.notes.proofs.Places.{same-is, place-own}
 use Rattle.notes.proofs.Entries.{entry-none}
 use Rattle.notes.proofs.Noting.{note-kept, note-entry}

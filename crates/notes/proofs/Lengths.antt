@@ -3,7 +3,7 @@ use mathlib.Core.Path.{_≡_, refl, sym, ap, _∙_}
 use mathlib.Core.Bool.{true, false, not}
 use mathlib.Core.Logic.{inl, inr}
 use mathlib.Core.List.{List, [], _∷_, _++_, map}
-use Prim.Native.Nat.{ℕ, _+_, _*_}
+use Prim.Native.Nat.{ℕ, _+_}
 use native.Mathlib.Omega.{arith}
 use lib.ListN.{length}
 use Rattle.std.specs.declared.option.Option.{Option}
@@ -15,65 +15,59 @@ use Rattle.std.proofs.shelf.Sums.{sumBy-cons, sumBy-append}
 use Rattle.std.proofs.shelf.Tests.{cases-bool, both-ways, and-parts, or-left, or-right, not-true, cond-false}
 use Rattle.terms.specs.Lists.{isIn, _▷_}
 use Rattle.image.specs.Bytes.{path, deps, header, word, padded, checksum, recordBytes, recordsBytes}
-use Rattle.image.specs.Tables.{Table, bare}
+use Rattle.image.specs.Tables.{Table, bare, learnAll}
 use Rattle.image.specs.Kept.{distinct, Kept}
 use Rattle.image.proofs.Writes.{length-words}
 use Rattle.notes.specs.Notes.{Says, Note, entryOf, saysSame, unchanged, newNames, namesOf, extended, idIn, noteBytes, noteTable, notesBytes, notesTable}
 use Rattle.notes.specs.Compacting.{noteOf, notesFor, entriesOf, compactBytes, compactTable}
-use Rattle.notes.specs.Laws.{AllFit}
+use Rattle.notes.specs.Wholeness.{AllFit}
+use Rattle.notes.specs.Laws.{pathLength, depsLength, Note-adds}
 use Rattle.notes.proofs.Places.{same-is, same-self}
-use Rattle.notes.proofs.Noting.{records-full, note-names, note-kept, note-entry}
+use Rattle.notes.proofs.Noting.{records-none, records-full, note-names, note-kept, note-entry}
 use Rattle.notes.proofs.LatestNoted.{bare-kept}
 use Rattle.notes.proofs.Refits.{compact-fits}
 
 -- Lengths ----------------------------------------------------------------------------------------------------------------
 
--- the bytes of a name's path record, and of what the deps record of an entry takes
-abbrev pub pathSize : List ℕ → ℕ
-pathSize name = length (recordBytes 0 (path name))
-
-abbrev depsSize : Says → ℕ
-depsSize s = 16 + 4 * length (s .inputs)
-
 abbrev noteSize : Note → ℕ
-noteSize n = depsSize (n .says)
+noteSize n = depsLength (length (n .says .inputs))
 
 abbrev pub entrySize : Option Says → ℕ
 entrySize None = 0
-entrySize (Some s) = depsSize s
+entrySize (Some s) = depsLength (length (s .inputs))
 
-length-paths : (id : ℕ) (ns : List (List ℕ)) (o m : ℕ) (is : List ℕ) → length (recordsBytes id (map path ns ▷ deps o m is)) ≡ sumBy pathSize ns + (16 + 4 * length is)
+length-paths : (id : ℕ) (ns : List (List ℕ)) (o m : ℕ) (is : List ℕ) → length (recordsBytes id (map path ns ▷ deps o m is)) ≡ sumBy pathLength ns + depsLength (length is)
 length-paths id [] o m is = omega (arith, length-words is, length-append (recordBytes id (deps o m is)) [])
 length-paths id (n ∷ ns) o m is =
     omega (
       arith,
       length-paths (id + 1) ns o m is,
-      sumBy-cons pathSize n ns,
+      sumBy-cons pathLength n ns,
       length-append (recordBytes id (path n)) (recordsBytes (id + 1) (map path ns ▷ deps o m is)),
       length-append (padded n) (word (checksum id)),
-      length-append (padded n) (word (checksum 0)),
     )
 
--- a note that is not unchanged takes a path record for each name more, and the deps record
-note-length : (u : Table) (n : Note) → unchanged u n ≡ false → length (noteBytes u n) + sumBy pathSize (u .names) ≡ sumBy pathSize (noteTable u n .names) + noteSize n
+pub note-adds : Note-adds
+note-adds t n = record {
+  nothing = λ e. (ap (recordsBytes (length (t .names))) (records-none t n e), ap (learnAll t) (records-none t n e));
+  names = note-names t n;
+  bytes = λ e.
+      let known : List (List ℕ) = extended (t .names) n in
+      ap (λ rs. length (recordsBytes (length (t .names)) rs)) (records-full t n e) ∙
+      length-paths (length (t .names)) (newNames (t .names) (namesOf n)) (idIn known (n .output)) (n .says .mtime) (map (idIn known) (n .says .inputs)) ∙
+      ap (λ (k : ℕ). sumBy pathLength (newNames (t .names) (namesOf n)) + depsLength k) (length-map (n .says .inputs) (idIn known));
+}
+
+note-length : (u : Table) (n : Note) → unchanged u n ≡ false → length (noteBytes u n) + sumBy pathLength (u .names) ≡ sumBy pathLength (noteTable u n .names) + noteSize n
 note-length u n e =
-    let new : List (List ℕ) = newNames (u .names) (namesOf n) in
-    let known : List (List ℕ) = extended (u .names) n in
-    omega (
-      arith,
-      ap (λ rs. length (recordsBytes (length (u .names)) rs)) (records-full u n e),
-      length-paths (length (u .names)) new (idIn known (n .output)) (n .says .mtime) (map (idIn known) (n .says .inputs)),
-      length-map (n .says .inputs) (idIn known),
-      ap (sumBy pathSize) (note-names u n e),
-      sumBy-append pathSize (u .names) new,
-    )
+    omega (arith, note-adds u n .bytes e, ap (sumBy pathLength) (note-names u n e), sumBy-append pathLength (u .names) (newNames (u .names) (namesOf n)))
 
 -- none of them is unchanged when it is made
 abbrev AllNew : Table → List Note → Type 0
 AllNew u [] = Unit {0}
 AllNew u (n ∷ ns) = (unchanged u n ≡ false) × AllNew (noteTable u n) ns
 
-notes-length : (u : Table) (ns : List Note) → AllNew u ns → length (notesBytes u ns) + sumBy pathSize (u .names) ≡ sumBy pathSize (notesTable u ns .names) + sumBy noteSize ns
+notes-length : (u : Table) (ns : List Note) → AllNew u ns → length (notesBytes u ns) + sumBy pathLength (u .names) ≡ sumBy pathLength (notesTable u ns .names) + sumBy noteSize ns
 notes-length u [] w = omega arith
 notes-length u (n ∷ ns) w =
     omega (arith, note-length u n (w .0), notes-length (noteTable u n) ns (w .1), length-append (noteBytes u n) (notesBytes (noteTable u n) ns), sumBy-cons noteSize n ns)
@@ -119,7 +113,7 @@ module _ (t : Table) where
   size-for [] = refl
   size-for (n ∷ ns) = omega (arith, size-on n (entryOf t n) (notesFor t ns), size-for ns, sumBy-cons sizeIn n ns)
 
-  pub compact-length : Kept t → length (compactBytes t) ≡ 16 + (sumBy pathSize (compactTable t .names) + sumBy sizeIn (t .names))
+  pub compact-length : Kept t → length (compactBytes t) ≡ 16 + (sumBy pathLength (compactTable t .names) + sumBy sizeIn (t .names))
   compact-length k =
       let a = notes-length bare (entriesOf t) (new-for bare (t .names) bare-kept (k .apart) (λ o e. refl) (compact-fits t k)) in
       omega (arith, a, size-for (t .names), length-append header (notesBytes bare (entriesOf t)))

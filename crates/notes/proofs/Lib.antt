@@ -11,3 +11,4 @@ pub mod Weights
 pub mod Refits
 pub mod Lengths
 pub mod Compacted
+pub mod Compared

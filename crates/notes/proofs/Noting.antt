@@ -20,7 +20,7 @@ use Rattle.image.specs.Kept.{Kept}
 use Rattle.image.specs.Laws.{Writable, AllWritable}
 use Rattle.notes.specs.Notes.{Says, Note, nameOf, entryOf, sameNames, saysSame, unchanged, unknown, newNames, namesOf, extended, idIn, depsOf, noteRecords, noteTable}
 use Rattle.notes.specs.Latest.{sayNow}
-use Rattle.notes.specs.Laws.{Fitting}
+use Rattle.notes.specs.Wholeness.{Fitting}
 use Rattle.notes.proofs.Places.{same-is, same-names, in-left, in-middle, is-known, ids-below}
 use Rattle.notes.proofs.Keeping.{learnAll-kept, front-writable}
 use Rattle.notes.proofs.Entries.{paths-same, set-entry}

@@ -18,7 +18,7 @@ use Rattle.image.specs.Bytes.{Record}
 use Rattle.image.specs.Kept.{fitsEntry, Kept}
 use Rattle.notes.specs.Notes.{Says, Note, nameOf, byNames, entryOf, unchanged, namesOf, idIn, noteTable, notesTable}
 use Rattle.notes.specs.Compacting.{noteOf, notesFor, entriesOf, compactTable}
-use Rattle.notes.specs.Laws.{Fitting, AllFit}
+use Rattle.notes.specs.Wholeness.{Fitting, AllFit}
 use Rattle.notes.proofs.Places.{in-at, every-at, is-known}
 use Rattle.notes.proofs.Entries.{entry-none, entry-known, entry-fits}
 use Rattle.notes.proofs.Noting.{records-none, note-names}

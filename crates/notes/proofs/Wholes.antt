@@ -6,19 +6,26 @@ use Prim.Native.Nat.{ℕ, _+_, _-_, _≤_}
 use native.Mathlib.Nat.{le-refl}
 use native.Mathlib.Omega.{arith}
 use lib.ListN.{length, take, drop}
+use Rattle.std.specs.declared.option.Option.{Option}
 use Rattle.std.specs.declared.option.Option.the-variants.{None}
+use Rattle.std.specs.declared.result.Result.{Result}
+use Rattle.std.specs.declared.result.Result.the-variants.{Ok, Err}
 use Rattle.std.specs.shelf.Text.{sameBytes}
 use Rattle.std.proofs.shelf.Lists.{length-append, length-take, length-take-le, take-append-drop, take-append-le, take-take, drop-at, drop-all, append-assoc, append-nil}
 use Rattle.std.proofs.shelf.Tests.{false≢true, cond-true}
 use Rattle.terms.specs.declared.At.{At}
+use Rattle.terms.specs.declared.Refusal.{Refusal}
+use Rattle.terms.specs.declared.Refusal.the-variants.{NoHeader}
+use Rattle.image.specs.declared.filled.Filled.{Filled}
 use Rattle.image.specs.Bytes.{Record, header}
 use Rattle.image.specs.Reading.{Reading, end, readFront}
 use Rattle.image.specs.Tables.{Table, bare}
 use Rattle.image.specs.Kept.{Kept}
-use Rattle.image.specs.Scans.{Scan, stopped, scan, imageOf, hasHeader, scanned, known, firstOver, overLimit}
+use Rattle.image.specs.Scans.{Scan, stopped, scan, imageOf, hasHeader, scanned, known, firstOver, overLimit, fillFrom, fillBy}
 use Rattle.image.proofs.Readings.{isGood}
 use Rattle.notes.specs.Notes.{noteRecords, noteBytes, noteTable, notesBytes, notesTable}
-use Rattle.notes.specs.Laws.{Whole, Tells, AllFit, Note-reads-back, Notes-read-back, Mending-keeps, Noting-keeps}
+use Rattle.notes.specs.Wholeness.{Whole, Tells, AllFit}
+use Rattle.notes.specs.Laws.{Accepted, Note-reads-back, Notes-read-back, Mending-keeps, Noting-keeps}
 use Rattle.notes.proofs.Places.{same-is}
 use Rattle.notes.proofs.Reach.{Reach, reach-within, reach-stays, reach-part, reach-on, reach-scan, tailOf, turns-are, scan-reach}
 use Rattle.notes.proofs.Written.{placed, limits-written, limits-on, reach-written}
@@ -123,3 +130,9 @@ mend-headed image h o k =
 pub mending-keeps : Mending-keeps
 mending-keeps [] h o k = mend-headed header refl refl k
 mending-keeps (b ∷ bs) h o k = mend-headed (b ∷ bs) h o k
+
+pub accepted : Accepted
+accepted live h o =
+    let s : Scan = scanned live in
+    let F : ℕ → Result Filled Refusal × Table = λ n. (Ok (record { records = n; length = s .past; tail = s .tail }), s .table) in
+    cond-true (hasHeader (imageOf live)) (fillBy 0 0 s) (Err NoHeader, bare) h ∙ ap (λ (x : Option ℕ). fillFrom 0 x s) o ∙ ap F (omega arith)

@@ -1,47 +1,28 @@
 -- The laws of noting and of recompacting. Assumes nothing.
 use mathlib.Core.Path.{_≡_}
-use mathlib.Core.Bool.{true}
-use mathlib.Core.List.{List, [], _∷_, _++_}
+use mathlib.Core.Bool.{true, false}
+use mathlib.Core.List.{List, [], _++_}
 use mathlib.Core.Logic.{_⊎_}
-use Prim.Native.Nat.{ℕ, _^_, _≤_, _<_}
+use Prim.Native.Nat.{ℕ, _+_, _*_, _≤_, _<_}
 use lib.ListN.{length, take, getD}
 use Rattle.std.specs.declared.option.Option.the-variants.{Some, None}
-use Rattle.terms.specs.Lists.{every}
+use Rattle.std.specs.shelf.Lists.{sumBy}
+use Rattle.std.specs.declared.result.Result.the-variants.{Ok}
 use Rattle.image.specs.declared.cause.Cause.{Cause}
 use Rattle.image.specs.declared.cause.Cause.the-variants.{NoWord, TooLong}
-use Rattle.image.specs.Names.{isName}
+use Rattle.image.specs.Bytes.{padded}
 use Rattle.image.specs.Tables.{Table, bare}
 use Rattle.image.specs.Kept.{Kept}
-use Rattle.image.specs.Scans.{Scan, imageOf, hasHeader, scanned, known, goodBytes, overLimit}
-use Rattle.notes.specs.Notes.{Note, nameOf, byNames, entryOf, namesOf, noteBytes, noteTable, notesBytes, notesTable}
+use Rattle.image.specs.Scans.{Scan, filled, imageOf, hasHeader, scanned, known, goodBytes, overLimit}
+use Rattle.notes.specs.Notes.{Note, nameOf, byNames, entryOf, unchanged, newNames, namesOf, extended, noteBytes, noteTable, notesBytes, notesTable}
 use Rattle.notes.specs.Compacting.{entriesOf, compactBytes, compactTable}
-use Rattle.notes.specs.Latest.{latest}
+use Rattle.notes.specs.Wholeness.{Whole, Fitting, AllFit, Tells, Agree}
 
--- An image all of whose bytes are good: it begins with the header, its records are within the limits and reach to its end, none is bad, and what they tell is
--- kept. So it is refused neither for its header nor for a limit.
-pub record Whole (image : List ℕ) : Type 0 where
-  pub headed : hasHeader image ≡ true
-  pub within : overLimit image ≡ None
-  pub reaches : scanned image .past ≡ length image
-  pub clean : scanned image .tail ≡ None
-  pub kept : Kept (known image)
-
--- a note within the limits, where a table is known
-pub record Fitting (t : Table) (n : Note) : Type 0 where
-  pub named : every isName (namesOf n) ≡ true
-  pub few : length (n .says .inputs) ≤ 64
-  pub timed : n .says .mtime < 2 ^ 64
-  pub room : length (noteTable t n .names) ≤ 256
-
--- notes one after the other, each within the limits
-abbrev pub AllFit : Table → List Note → Type 0
-AllFit t [] = Unit {0}
-AllFit t (n ∷ ns) = Fitting t n × AllFit (noteTable t n) ns
-
--- An image is whole, and this table is what it tells.
-pub record Tells (image : List ℕ) (t : Table) : Type 0 where
-  pub whole : Whole image
-  pub table : known image ≡ t
+-- An image that begins with the header and has no record over a limit is not refused: filling a table from it answers its good records, their length and the tail,
+-- and leaves what they tell.
+abbrev pub Accepted : Type 0
+Accepted = (live : List ℕ) → hasHeader (imageOf live) ≡ true → overLimit live ≡ None →
+    filled live ≡ (Ok (record { records = length (scanned live .records); length = scanned live .past; tail = scanned live .tail }), known live)
 
 -- Reading what a note wrote gives back what it says: behind a whole image it leaves a whole image, and the table that is meant.
 abbrev pub Note-reads-back : Type 0
@@ -51,6 +32,22 @@ Note-reads-back = (image : List ℕ) (n : Note) → Whole image → Fitting (kno
 abbrev pub Notes-read-back : Type 0
 Notes-read-back = (image : List ℕ) (ns : List Note) → Whole image → AllFit (known image) ns → Tells (image ++ notesBytes (known image) ns) (notesTable (known image) ns)
 
+-- the bytes of a name's path record, and those of a deps record with so many inputs
+abbrev pub pathLength : List ℕ → ℕ
+pathLength name = length (padded name) + 8
+
+abbrev pub depsLength : ℕ → ℕ
+depsLength inputs = 16 + 4 * inputs
+
+-- What a note adds: nothing, where the entry says the same already; otherwise the names that were unknown, with a path record each, and a deps record.
+pub record Adds (t : Table) (n : Note) : Type 0 where
+  pub nothing : unchanged t n ≡ true → (noteBytes t n ≡ []) × (noteTable t n ≡ t)
+  pub names : unchanged t n ≡ false → noteTable t n .names ≡ extended (t .names) n
+  pub bytes : unchanged t n ≡ false → length (noteBytes t n) ≡ sumBy pathLength (newNames (t .names) (namesOf n)) + depsLength (length (n .says .inputs))
+
+abbrev pub Note-adds : Type 0
+Note-adds = (t : Table) (n : Note) → Adds t n
+
 -- Notes keep what every table keeps.
 abbrev pub Noting-keeps : Type 0
 Noting-keeps = (t : Table) (ns : List Note) → Kept t → AllFit t ns → Kept (notesTable t ns)
@@ -58,10 +55,6 @@ Noting-keeps = (t : Table) (ns : List Note) → Kept t → AllFit t ns → Kept 
 -- The good bytes of an image that is refused neither for its header nor for a limit are whole, and tell the same.
 abbrev pub Mending-keeps : Type 0
 Mending-keeps = (live : List ℕ) → hasHeader (imageOf live) ≡ true → overLimit live ≡ None → Kept (known live) → Tells (goodBytes live) (known live)
-
--- The latest of these notes are exactly the entries of a table.
-abbrev pub Agree : List Note → Table → Type 0
-Agree ns t = (output : List ℕ) → latest ns output ≡ entryOf t output
 
 -- A log's entries are the latest of the notes made in it.
 abbrev pub Latest-noted : Type 0

@@ -27,7 +27,7 @@ abbrev Wrote : Type 0
 Wrote = Result ℕ TooShort × List ℕ
 
 by-room : (b : Bool) (bytes old buf : List ℕ) (n : ℕ) → _≡_ {A = Wrote} (Ok n, buf) (cond b (Ok (length bytes), bytes ++ drop (length bytes) old) (Err (record { need = length bytes }), old)) →
-  take (n - 0) buf ≡ bytes
+    take (n - 0) buf ≡ bytes
 by-room true bytes old buf n e =
     let p = ap (λ (w : Wrote). w .0) e in
     let k : n ≡ length bytes = cc in
@@ -77,8 +77,8 @@ fell-wider b xs ys s t f = record {
   kept = min (f .kept) (length (b .pending ++ xs));
   live = f .live ∙ cut-wider (f .kept) b xs ys;
   draft-quiet = f .draft-quiet;
-  draft-fits = f .draft-fits
-  }
+  draft-fits = f .draft-fits;
+}
 
 pub more-more : (b : Bytes) (xs ys : List ℕ) → more (more b xs) ys ≡ more b (xs ++ ys)
 more-more b xs ys = ap (λ (zs : List ℕ). record { durable = b .durable; pending = zs }) (append-assoc (b .pending) xs ys)

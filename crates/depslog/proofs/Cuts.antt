@@ -1,47 +1,22 @@
 -- Names as places in some bytes. Assumes nothing.
 use mathlib.Core.Path.{_≡_, refl, sym, ap, _∙_}
 use mathlib.Core.Bool.{Bool, true, false, cond, not}
-use mathlib.Core.Logic.{inl, inr}
 use mathlib.Core.List.{List, [], _∷_}
-use Prim.Native.Nat.{ℕ, _+_, _-_, _<_, _≤_, min}
+use Prim.Native.Nat.{ℕ, _+_, _<_}
 use native.Mathlib.Omega.{arith}
-use lib.ListN.{length, getD, take, drop}
-use lib.Seq.{take-nil}
+use lib.ListN.{length, getD, drop}
 use Rattle.std.specs.declared.option.Option.{Option}
 use Rattle.std.specs.declared.option.Option.the-variants.{Some, None}
 use Rattle.std.specs.declared.result.Result.{Result}
 use Rattle.std.specs.declared.result.Result.the-variants.{Ok, Err}
-use Rattle.std.proofs.shelf.Lists.{length-drop, take-all, drop-all, at-drop-more}
-use Rattle.std.proofs.shelf.Tests.{cases-lt}
+use Rattle.std.proofs.shelf.Lists.{at-drop-more}
 use Rattle.terms.specs.declared.Place.{Place}
 use Rattle.terms.specs.declared.Refusal.{Refusal}
 use Rattle.terms.specs.declared.Refusal.the-variants.{Outside, NotName}
 use Rattle.image.specs.Names.{isName}
 use Rattle.depslog.specs.Calls.{faultOr}
-use Rattle.depslog.specs.Noting.{cut, outside, placeFault, nameFault}
-
--- so many bytes of a list that has no more
-take-most : (l n k : ℕ) (xs : List ℕ) → n ≡ length xs → k ≡ min l n → take k xs ≡ take l xs
-take-most l n k xs e f =
-    elim (cases-lt n l) [
-      | inl h ↦ take-all k xs (omega (arith, e, f)) ∙ sym (take-all l xs (omega (arith, e)))
-      | inr h ↦ ap (λ (j : ℕ). take j xs) (omega (arith, f))
-    ]
-
--- a place that is cut to the bytes there are
-pub cut-is : (bytes : List ℕ) (p : Place) (start len : ℕ) → start ≡ min (p .start) (length bytes) → len ≡ min (p .length) (length bytes - start) →
-    take (start + len - start) (drop start bytes) ≡ cut bytes p
-cut-is bytes p start len s l =
-    elim (cases-lt (length bytes) (p .start)) [
-      | inl h ↦
-          let a : drop start bytes ≡ [] = drop-all start bytes (omega (arith, s)) in
-          let b : drop (p .start) bytes ≡ [] = drop-all (p .start) bytes (omega arith) in
-          ap (take (start + len - start)) a ∙ take-nil (start + len - start) ∙ sym (ap (take (p .length)) b ∙ take-nil (p .length))
-      | inr h ↦
-          let e : start ≡ p .start = omega (arith, s) in
-          take-most (p .length) (length bytes - start) (start + len - start) (drop start bytes) (sym (length-drop start bytes)) (omega (arith, l)) ∙
-          ap (λ (j : ℕ). take (p .length) (drop j bytes)) e
-    ]
+use Rattle.notes.specs.Meant.{cut}
+use Rattle.depslog.specs.Noting.{outside, placeFault, nameFault}
 
 -- Name by name -------------------------------------------------------------------------------------------------------------
 

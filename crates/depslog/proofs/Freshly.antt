@@ -19,7 +19,7 @@ use Rattle.image.proofs.Tests.{place-in}
 use Rattle.notes.specs.Notes.{unknown, newNames, idAt, idIn}
 use Rattle.notes.proofs.Places as places
 use Rattle.depslog.specs.declared.fresh.Fresh.{Fresh}
-use Rattle.depslog.specs.Noting.{cut}
+use Rattle.notes.specs.Meant.{cut}
 use Rattle.depslog.specs.FreshNames.{freshNames}
 
 pub fresh-long : (bytes : List ℕ) (f : Fresh) → length (freshNames bytes f) ≡ f .count

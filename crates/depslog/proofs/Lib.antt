@@ -1,7 +1,6 @@
 pub mod Inputs
 pub mod Cuts
 pub mod Freshly
-pub mod Sayings
 pub mod Appends
 pub mod Opens
 pub mod Faults

@@ -18,9 +18,9 @@ use Rattle.medium.specs.Calls.{Synced, Failed}
 use Rattle.terms.specs.declared.Found.{Found}
 use Rattle.terms.specs.declared.Refusal.{Refusal}
 use Rattle.terms.specs.declared.Refusal.the-variants.{PowerOff, PowerLost, AlreadyOpen}
-use Rattle.terms.specs.Lists.{placeIn}
 use Rattle.image.specs.Tables.{Entry, Table}
 use Rattle.image.specs.Scans.{known, goodBytes, scanned}
+use Rattle.notes.specs.Meant.{found}
 use Rattle.depslog.specs.declared.opened.Opened.{Opened}
 use Rattle.depslog.specs.State.{LogState, closedOn, openOn, with-medium, liveOf}
 use Rattle.depslog.specs.Checks.{mends, openFault, syncFault, findFault}
@@ -61,26 +61,13 @@ pub record FailedLog (s t : LogState) : Type 0 where
 
 -- Find -------------------------------------------------------------------------------------------------------------------
 
--- an entry that is there, as it is found: its output's id is the index
-abbrev pub entryFound : ℕ → Option Entry → Option Found
-entryFound id None = None
-entryFound id (Some e) = Some (record { index = id; mtime = e .mtime })
-
-abbrev pub foundAt : Table → Option ℕ → Option Found
-foundAt t None = None
-foundAt t (Some id) = entryFound id (getD (t .entries) id None)
-
--- the entry of an output
-abbrev pub foundIn : Table → List ℕ → Option Found
-foundIn t output = foundAt t (placeIn output (t .names))
-
 abbrev pub faultOr : {A : Type 0} → Option Refusal → A → Result A Refusal
 faultOr (Some f) x = Err f
 faultOr None x = Ok x
 
 -- what find answers
 abbrev pub findAnswer : LogState → List ℕ → Result (Option Found) Refusal
-findAnswer s output = faultOr (findFault (s .isOpen) output) (foundIn (s .table) output)
+findAnswer s output = faultOr (findFault (s .isOpen) output) (found (s .table) output)
 
 abbrev pub inputsOf : Option Entry → List ℕ
 inputsOf None = []

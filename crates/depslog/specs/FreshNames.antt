@@ -3,7 +3,7 @@ use mathlib.Core.List.{List, map}
 use Prim.Native.Nat.{ℕ}
 use lib.ListN.{take}
 use Rattle.depslog.specs.declared.fresh.Fresh.{Fresh}
-use Rattle.depslog.specs.Noting.{cut}
+use Rattle.notes.specs.Meant.{cut}
 
 abbrev pub freshNames : List ℕ → Fresh → List (List ℕ)
 freshNames bytes f = map (cut bytes) (take (f .count) (f .places))

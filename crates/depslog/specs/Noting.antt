@@ -1,21 +1,16 @@
 -- What a note's call means: names by their places in some bytes, and when it is refused. Assumes nothing.
-use mathlib.Core.Bool.{Bool, true, false, cond, not, _&&_}
-use mathlib.Core.List.{List, [], _∷_, map}
+use mathlib.Core.Bool.{Bool, not}
+use mathlib.Core.List.{List, [], _∷_}
 use Prim.Native.Nat.{ℕ, _+_}
 use lib.Dec.{ltb}
-use lib.ListN.{length, take, drop}
+use lib.ListN.{length}
 use Rattle.std.specs.declared.option.Option.{Option}
-use Rattle.std.specs.declared.option.Option.the-variants.{Some, None}
 use Rattle.terms.specs.declared.Place.{Place}
 use Rattle.terms.specs.declared.Refusal.{Refusal}
-use Rattle.terms.specs.declared.Refusal.the-variants.{Outside, NotName, TooManyInputs, TooManyPaths}
+use Rattle.terms.specs.declared.Refusal.the-variants.{Outside, NotName}
 use Rattle.image.specs.Names.{isName}
-use Rattle.notes.specs.Notes.{Note}
+use Rattle.notes.specs.Meant.{cut}
 use Rattle.depslog.specs.Checks.{refuse}
-
--- the bytes at a place
-abbrev pub cut : List ℕ → Place → List ℕ
-cut bytes p = take (p .length) (drop (p .start) bytes)
 
 abbrev pub outside : List ℕ → Place → Bool
 outside bytes p = ltb (length bytes) (p .start + p .length)
@@ -28,7 +23,3 @@ placeFault bytes i p after = refuse (Outside i) (outside bytes p) (refuse (NotNa
 abbrev pub nameFault : List ℕ → ℕ → List Place → Option Refusal → Option Refusal
 nameFault bytes i [] after = after
 nameFault bytes i (p ∷ ps) after = placeFault bytes i p (nameFault bytes (i + 1) ps after)
-
--- the note that is meant by bytes and places
-abbrev pub meant : List ℕ → Place → ℕ → List Place → Note
-meant bytes output mtime inputs = record { output = cut bytes output; says = record { mtime = mtime; inputs = map (cut bytes) inputs } }

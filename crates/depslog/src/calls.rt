@@ -8,6 +8,7 @@ use super::log::Log;
 use image::DepsTable;
 use image::Name;
 use medium::Medium;
+use notes::find;
 use std::alloc::Global;
 use std::alloc::Refused;
 use terms::Found;
@@ -74,16 +75,7 @@ impl<M: Medium> Log<M> {
         if Name::new(output).is_none() {
             return Err(Refusal::NotName(0));
         }
-        let Some(index) = self.table.id_of(output) else {
-            return Ok(None);
-        };
-        match self.table.entry(index) {
-            Some(entry) => Ok(Some(Found {
-                index,
-                mtime: entry.mtime(),
-            })),
-            None => Ok(None),
-        }
+        Ok(find(&self.table, output))
     }
 
     // The name of input k of the entry with an index, where there is such an input.

@@ -7,12 +7,12 @@ ghost use Rattle.terms.specs.Lists.{placeIn};
 ghost use Rattle.image.specs.Learning.{view};
 ghost use Rattle.image.specs.View.{entryOf};
 ghost use Rattle.notes.specs.Notes.{unknown, newNames, idIn};
-ghost use Rattle.depslog.specs.Noting.{cut};
+ghost use Rattle.notes.specs.Meant.{cut};
 ghost use Rattle.depslog.specs.FreshNames.{freshNames};
 use super::fresh::Fresh;
-use super::names::cut_at;
 use image::DepsEntry;
 use image::DepsTable;
+use notes::part;
 use terms::Place;
 
 impl Fresh {
@@ -34,7 +34,7 @@ impl Fresh {
         ensures { λ r. ⌜ r ≡ placeIn (now (name .entry)) (freshNames (now (bytes .entry)) (now (self .entry))) ⌝ }
     {
         for k in 0..self.count {
-            if cut_at(bytes, self.places[k]) == name {
+            if part(bytes, self.places[k]) == name {
                 return Some(k);
             }
         }
@@ -47,7 +47,7 @@ impl Fresh {
         ensures names { λ _. ⌜ freshNames (now (bytes .entry)) (now (self .exit)) ≡ freshNames (now (bytes .entry)) (now (self .entry)) ++ unknown (view (now (table .entry)) .names ++ freshNames (now (bytes .entry)) (now (self .entry))) (cut (now (bytes .entry)) place) ⌝ }
         ensures count { λ _. ⌜ now (self .exit) .count ≤ now (self .entry) .count + 1 ⌝ }
     {
-        let name = cut_at(bytes, place);
+        let name = part(bytes, place);
         if table.id_of(name).is_none() && self.place_of(bytes, name).is_none() {
             self.places[self.count] = place;
             self.count += 1;
@@ -95,7 +95,7 @@ pub(super) fn entry_for(
 {
     let mut gathered = DepsEntry::new(mtime);
     for place in inputs {
-        gathered.push(id_in(table, bytes, fresh, cut_at(bytes, *place)) as u32);
+        gathered.push(id_in(table, bytes, fresh, part(bytes, *place)) as u32);
     }
     gathered
 }

@@ -7,7 +7,6 @@ mod names;
 mod opened;
 mod opening;
 mod replace;
-mod saying;
 mod writing;
 
 pub use log::Log;

@@ -3,19 +3,11 @@ ghost use mathlib.Core.Path.{_≡_};
 ghost use mathlib.Core.List.{_∷_};
 ghost use Rattle.std.specs.declared.option.Option.the-variants.{None};
 ghost use Rattle.depslog.specs.Calls.{faultOr};
-ghost use Rattle.depslog.specs.Noting.{cut, placeFault, nameFault};
+ghost use Rattle.depslog.specs.Noting.{placeFault, nameFault};
 use image::Name;
+use notes::part;
 use terms::Place;
 use terms::Refusal;
-
-// The bytes at a place, as far as there are any.
-pub(super) fn cut_at(bytes: &[u8], place: Place) -> &[u8]
-    ensures { λ r. ⌜ now r ≡ cut (now (bytes .entry)) place ⌝ }
-{
-    let start = place.start.min(bytes.len());
-    let len = place.length.min(bytes.len() - start);
-    &bytes[start..start + len]
-}
 
 // Whether the name with an index lies in the bytes and is a name.
 fn check_name(bytes: &[u8], place: Place, index: usize) -> Result<(), Refusal>
@@ -24,7 +16,7 @@ fn check_name(bytes: &[u8], place: Place, index: usize) -> Result<(), Refusal>
     if place.start > bytes.len() || place.length > bytes.len() - place.start {
         return Err(Refusal::Outside(index));
     }
-    if Name::new(cut_at(bytes, place)).is_none() {
+    if Name::new(part(bytes, place)).is_none() {
         return Err(Refusal::NotName(index));
     }
     Ok(())

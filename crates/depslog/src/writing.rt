@@ -32,7 +32,11 @@ fn append_path<M: Medium>(medium: &mut M, id: u32, name: &[u8]) -> Result<(), Fa
 }
 
 // Appends the deps record that gives the output with this id an entry.
-pub(super) fn append_deps<M: Medium>(medium: &mut M, output: u32, entry: &DepsEntry) -> Result<(), Fault>
+pub(super) fn append_deps<M: Medium>(
+    medium: &mut M,
+    output: u32,
+    entry: &DepsEntry,
+) -> Result<(), Fault>
     requires { ⌜ length (liveOf (M·Medium .state (now medium))) + length (recordBytes 0 (deps output (entryOf (now entry) .mtime) (entryOf (now entry) .inputs))) ≤ M·Medium .state (now medium) .capacity ⌝ }
     ensures { λ r. ⌜ AppendedAll (recordBytes 0 (deps output (entryOf (now (entry .entry)) .mtime) (entryOf (now (entry .entry)) .inputs))) (M·Medium .state (now (medium .entry))) r (M·Medium .state (now (medium .exit))) ⌝ }
 {

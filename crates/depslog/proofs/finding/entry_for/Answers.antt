@@ -12,7 +12,7 @@ use Rattle.image.specs.Tables.{Entry}
 use Rattle.image.specs.View.{entryOf}
 use Rattle.image.specs.Learning.{view}
 use Rattle.notes.specs.Notes.{idIn}
-use Rattle.depslog.specs.Noting.{cut}
+use Rattle.notes.specs.Meant.{cut}
 use Rattle.depslog.specs.FreshNames.{freshNames}
 use Rattle.depslog.proofs.Freshly.{idsOf, ids-more, ids-long}
 use Rattle.depslog.proofs.finding.entry_for.Needs as need
@@ -30,7 +30,7 @@ loop-place-again c =
     let l : length (was .inputs) ≡ k = ap length i ∙ ids-long names bytes (take k inputs) ∙ length-take-le k inputs (omega (arith, h)) in
     let more : Entry = record { mtime = was .mtime; inputs = was .inputs ▷ c .id-in .result } in
     let room : c .push .result ≡ true = c .push .ensures .room ∙ lt-ltb (length (was .inputs)) 64 (omega (arith, l, h, c .pre)) in
-    let id : c .id-in .result ≡ idIn names (cut bytes (getD inputs k none)) = c .id-in .ensures .value ∙ ap (idIn names) (c .cut-at .ensures) in
+    let id : c .id-in .result ≡ idIn names (cut bytes (getD inputs k none)) = c .id-in .ensures .value ∙ ap (idIn names) (c .part .ensures) in
     let F : ℕ → List ℕ → Entry = λ m xs. record { mtime = m; inputs = xs } in
     c .push .ensures .after ∙ cond-true (c .push .result) more was room ∙
     ap (λ (m : ℕ). F m (was .inputs ▷ c .id-in .result)) (ap (λ (e : Entry). e .mtime) (c .loop-place .inv)) ∙

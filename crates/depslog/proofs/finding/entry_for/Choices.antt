@@ -4,7 +4,7 @@ use lib.ListN.{take}
 use Rattle.image.specs.View.{entryOf}
 use Rattle.image.specs.Learning.{view}
 use Rattle.notes.specs.Notes.{idIn}
-use Rattle.depslog.specs.Noting.{cut}
+use Rattle.notes.specs.Meant.{cut}
 use Rattle.depslog.specs.FreshNames.{freshNames}
 use Rattle.depslog.proofs.finding.entry_for.Given as given
 

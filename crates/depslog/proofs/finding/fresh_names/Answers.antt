@@ -7,7 +7,7 @@ use Rattle.std.proofs.shelf.Lists.{at-drop-more, at-drop-all}
 use Rattle.terms.specs.declared.Place.{Place}
 use Rattle.image.specs.Learning.{view}
 use Rattle.notes.specs.Notes.{newNames}
-use Rattle.depslog.specs.Noting.{cut}
+use Rattle.notes.specs.Meant.{cut}
 use Rattle.depslog.specs.FreshNames.{freshNames}
 use Rattle.depslog.proofs.Freshly.{together, taken-next, together-none, together-all, fresh-none}
 use Rattle.depslog.proofs.finding.fresh_names.Needs as need

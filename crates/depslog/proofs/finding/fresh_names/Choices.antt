@@ -4,7 +4,7 @@ use Prim.Native.Nat.{_+_, _≤_}
 use lib.ListN.{length, drop}
 use Rattle.image.specs.Learning.{view}
 use Rattle.notes.specs.Notes.{newNames}
-use Rattle.depslog.specs.Noting.{cut}
+use Rattle.notes.specs.Meant.{cut}
 use Rattle.depslog.specs.FreshNames.{freshNames}
 use Rattle.depslog.proofs.finding.fresh_names.Given as given
 

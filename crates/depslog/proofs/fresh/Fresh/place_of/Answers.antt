@@ -20,7 +20,7 @@ returns-then-eq c =
     let k = c .loop-k .k in
     let none : Place = record { start = 0; length = 0 } in
     let l : k < length (freshNames bytes f) = omega (arith, fresh-long bytes f, c .loop-k-test .taken) in
-    let q = fresh-asked bytes name (c .cut-at .result .now) f k none (c .eq .result) (c .loop-k-test .taken) (c .cut-at .ensures) (matches-decides _ _ _ (c .eq .ensures)) in
+    let q = fresh-asked bytes name (c .part .result .now) f k none (c .eq .result) (c .loop-k-test .taken) (c .part .ensures) (matches-decides _ _ _ (c .eq .ensures)) in
     sym (place-here k (sameBytes name) (freshNames bytes f) l (q ∙ c .if-eq .taken)) ∙ c .loop-k .inv
 
 pub loop-k-again : need.loop-k-again
@@ -31,7 +31,7 @@ loop-k-again c =
     let k = c .loop-k .k in
     let none : Place = record { start = 0; length = 0 } in
     let l : k < length (freshNames bytes f) = omega (arith, fresh-long bytes f, c .loop-k-test .taken) in
-    let q = fresh-asked bytes name (c .cut-at .result .now) f k none (c .eq .result) (c .loop-k-test .taken) (c .cut-at .ensures) (matches-decides _ _ _ (c .eq .ensures)) in
+    let q = fresh-asked bytes name (c .part .result .now) f k none (c .eq .result) (c .loop-k-test .taken) (c .part .ensures) (matches-decides _ _ _ (c .eq .ensures)) in
     sym (place-past k (sameBytes name) (freshNames bytes f) l (q ∙ c .if-eq .left)) ∙ c .loop-k .inv
 
 pub returns : need.returns

@@ -8,7 +8,7 @@ use Rattle.std.proofs.shelf.Lists.{append-nil}
 use Rattle.terms.specs.Lists.{isIn, placeIn}
 use Rattle.image.specs.Learning.{view}
 use Rattle.image.proofs.Readings.{known-by}
-use Rattle.depslog.specs.Noting.{cut}
+use Rattle.notes.specs.Meant.{cut}
 use Rattle.depslog.specs.FreshNames.{freshNames}
 use Rattle.depslog.proofs.Freshly.{is-new, is-known, is-taken, fresh-more}
 use Rattle.depslog.proofs.fresh.Fresh.take_in.Needs as need
@@ -25,8 +25,8 @@ returns-then-is-none-2 c =
     let known = view (c .args .table .now) .names in
     let name : List ℕ = cut bytes (c .args .place) in
     let fresh = freshNames bytes f in
-    let a = looked-up (c .cut-at-name .result .now) name known false (c .cut-at-name .ensures) (ap isSome (sym (c .id-of .ensures)) ∙ c .if-is-none .ensures tt) in
-    let b = looked-up (c .cut-at-name .result .now) name fresh false (c .cut-at-name .ensures) (ap isSome (sym (c .place-of .ensures)) ∙ c .if-is-none-2 .ensures tt) in
+    let a = looked-up (c .part-name .result .now) name known false (c .part-name .ensures) (ap isSome (sym (c .id-of .ensures)) ∙ c .if-is-none .ensures tt) in
+    let b = looked-up (c .part-name .result .now) name fresh false (c .part-name .ensures) (ap isSome (sym (c .place-of .ensures)) ∙ c .if-is-none-2 .ensures tt) in
     record {
       names = fresh-more bytes (f .places) (f .count) (c .args .place) (omega (arith, f .long, c .pre)) ∙ ap (λ (xs : List (List ℕ)). fresh ++ xs) (sym (is-new name known fresh a b));
       count = omega arith;
@@ -42,10 +42,10 @@ returns-else-is-none c =
     record {
       names = sym (elim (c .else-is-none .came) [
         | else-is-none·by·then-is-none·else-is-none-2 w ↦
-            let b = looked-up (c .cut-at-name .result .now) name fresh true (c .cut-at-name .ensures) (ap isSome (sym (w .place-of .ensures)) ∙ w .if-is-none-2 .ensures tt) in
+            let b = looked-up (c .part-name .result .now) name fresh true (c .part-name .ensures) (ap isSome (sym (w .place-of .ensures)) ∙ w .if-is-none-2 .ensures tt) in
             ap (λ (xs : List (List ℕ)). fresh ++ xs) (is-taken name known fresh b) ∙ append-nil fresh
         | else-is-none·by·else-is-none w ↦
-            let a = looked-up (c .cut-at-name .result .now) name known true (c .cut-at-name .ensures) (ap isSome (sym (c .id-of .ensures)) ∙ w .if-is-none .ensures tt) in
+            let a = looked-up (c .part-name .result .now) name known true (c .part-name .ensures) (ap isSome (sym (c .id-of .ensures)) ∙ w .if-is-none .ensures tt) in
             ap (λ (xs : List (List ℕ)). fresh ++ xs) (is-known name known fresh a) ∙ append-nil fresh
       ]);
       count = omega arith;

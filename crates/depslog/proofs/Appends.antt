@@ -2,21 +2,23 @@
 use mathlib.Core.Path.{_≡_, refl, sym, ap, subst, _∙_}
 use mathlib.Core.Bool.{Bool, true, false, cond}
 use mathlib.Core.Logic.{_⊎_, inl, inr}
-use mathlib.Core.List.{List, [], _∷_, _++_}
-use Prim.Native.Nat.{ℕ, _+_, _-_, _<_, _≤_, min}
+use mathlib.Core.List.{List, [], _∷_, _++_, map}
+use Prim.Native.Nat.{ℕ, zero, suc, _+_, _-_, _<_, _≤_, min}
 use native.Mathlib.Omega.{arith}
 use lib.Dec.{leb}
-use lib.ListN.{length, take, drop}
+use lib.ListN.{length, getD, take, drop}
 use Rattle.std.specs.declared.result.Result.{Result}
 use Rattle.std.specs.declared.result.Result.the-variants.{Ok, Err}
-use Rattle.std.proofs.shelf.Lists.{append-assoc, append-nil, length-append, take-at, take-all, take-append-le, take-take, length-take}
-use Rattle.std.proofs.shelf.Tests.{cases-lt, le-leb, cond-true}
+use Rattle.std.proofs.shelf.Lists.{append-assoc, append-nil, length-append, take-at, take-all, take-append-le, take-append-drop, take-more, length-take-le}
+use Rattle.std.proofs.shelf.Tests.{cases-lt, le-leb, cond-true, true≢false, and-parts}
 use Rattle.medium.specs.declared.Fault.{Fault}
 use Rattle.medium.specs.declared.Fault.the-variants.{Off, Full}
 use Rattle.medium.specs.State.{Bytes, State, all, settled, more, cut, with-appended}
 use Rattle.medium.specs.Failure.{Fell}
 use Rattle.medium.specs.Calls.{Granted, Idle, Broken, Appended}
+use Rattle.terms.specs.Lists.{every}
 use Rattle.image.specs.declared.writer.TooShort.{TooShort}
+use Rattle.image.specs.Bytes.{path, recordBytes, recordsBytes}
 use Rattle.image.specs.Written.{written}
 use Rattle.depslog.specs.State.{liveOf}
 use Rattle.depslog.specs.Appending.{AppendedAll}
@@ -82,3 +84,76 @@ fell-wider b xs ys s t f = record {
 
 pub more-more : (b : Bytes) (xs ys : List ℕ) → more (more b xs) ys ≡ more b (xs ++ ys)
 more-more b xs ys = ap (λ (zs : List ℕ). record { durable = b .durable; pending = zs }) (append-assoc (b .pending) xs ys)
+
+-- the live bytes after an append
+pub live-more : (bs : List ℕ) (s : State) → length (liveOf (with-appended bs s)) ≡ length (liveOf s) + length bs
+live-more bs s =
+    length-append (s .live .durable) (s .live .pending ++ bs) ∙ ap (λ (n : ℕ). length (s .live .durable) + n) (length-append (s .live .pending) bs) ∙
+    omega (arith, length-append (s .live .durable) (s .live .pending))
+
+-- a piece more was appended
+pub appended-more : (s t u : State) (xs ys : List ℕ) → t ≡ with-appended xs s → u ≡ with-appended ys t → u ≡ with-appended (xs ++ ys) s
+appended-more s t u xs ys e f =
+    f ∙ ap (with-appended ys) e ∙ ap (λ (b : Bytes). record { power = s .power; capacity = s .capacity; live = b; draft = s .draft }) (more-more (s .live) xs ys)
+
+-- the power failed in a piece, with more to come
+pub appended-broke : (s t u : State) (xs ys zs : List ℕ) (f : Fault) → s .power ≡ true → t ≡ with-appended xs s → AppendedAll {A = Unit {0}} ys t (Err f) u →
+  AppendedAll {A = Unit {0}} ((xs ++ ys) ++ zs) s (Err f) u
+appended-broke s t u xs ys zs Full on e a = absurd (a .over)
+appended-broke s t u xs ys zs Off on e a =
+    elim (subst (λ (v : State). AppendedAll {A = Unit {0}} ys v (Err Off) u) e a) [
+      | inl i ↦ absurd (true≢false (sym on ∙ i .off))
+      | inr b ↦ inr (record {
+          on = on;
+          fits = tt;
+          fell = fell-wider (s .live) (xs ++ ys) zs s u (subst (λ (c : Bytes). Fell c s u) (more-more (s .live) xs ys)
+            (record { off = b .fell .off; same = b .fell .same; kept = b .fell .kept; live = b .fell .live; draft-quiet = b .fell .draft-quiet; draft-fits = b .fell .draft-fits }))
+        })
+    ]
+
+-- Path records one after the other --------------------------------------------------------------------------------------------
+
+abbrev pub paths : ℕ → List (List ℕ) → List ℕ
+paths id ns = recordsBytes id (map path ns)
+
+pub paths-both : (id : ℕ) (ns ms : List (List ℕ)) → paths id (ns ++ ms) ≡ paths id ns ++ paths (id + length ns) ms
+paths-both id [] ms = ap (λ (j : ℕ). paths j ms) (omega arith)
+paths-both id (n ∷ ns) ms =
+    ap (λ (xs : List ℕ). recordBytes id (path n) ++ xs) (paths-both (id + 1) ns ms ∙ ap (λ (j : ℕ). paths (id + 1) ns ++ paths j ms) (omega arith)) ∙
+    sym (append-assoc (recordBytes id (path n)) (paths (id + 1) ns) (paths (id + length (n ∷ ns)) ms))
+
+-- those before the k-th, the k-th, and those behind it
+pub paths-at : (id : ℕ) (ns : List (List ℕ)) (k : ℕ) → k < length ns →
+  paths id ns ≡ (paths id (take k ns) ++ recordBytes (id + k) (path (getD ns k []))) ++ paths (id + (k + 1)) (drop (k + 1) ns)
+paths-at id ns k h =
+    let n : List ℕ = getD ns k [] in
+    let l : length (take k ns) ≡ k = length-take-le k ns (omega (arith, h)) in
+    let l′ : length (take k ns ++ n ∷ []) ≡ k + 1 = length-append (take k ns) (n ∷ []) ∙ omega (arith, l) in
+    let one : paths id (take k ns ++ n ∷ []) ≡ paths id (take k ns) ++ recordBytes (id + k) (path n) =
+      paths-both id (take k ns) (n ∷ []) ∙ ap (λ (j : ℕ). paths id (take k ns) ++ paths (id + j) (n ∷ [])) l ∙ ap (λ (xs : List ℕ). paths id (take k ns) ++ xs) (append-nil (recordBytes (id + k) (path n))) in
+    ap (paths id) (sym (take-append-drop (k + 1) ns) ∙ ap (λ (xs : List (List ℕ)). xs ++ drop (k + 1) ns) (take-more ns k [] h)) ∙
+    paths-both id (take k ns ++ n ∷ []) (drop (k + 1) ns) ∙
+    ap (λ (j : ℕ). paths id (take k ns ++ n ∷ []) ++ paths (id + j) (drop (k + 1) ns)) l′ ∙ ap (λ (xs : List ℕ). xs ++ paths (id + (k + 1)) (drop (k + 1) ns)) one
+
+pub paths-more : (id : ℕ) (ns : List (List ℕ)) (k : ℕ) → k < length ns → paths id (take (k + 1) ns) ≡ paths id (take k ns) ++ recordBytes (id + k) (path (getD ns k []))
+paths-more id ns k h =
+    let l : length (take k ns) ≡ k = length-take-le k ns (omega (arith, h)) in
+    ap (paths id) (take-more ns k [] h) ∙ paths-both id (take k ns) (getD ns k [] ∷ []) ∙
+    ap (λ (j : ℕ). paths id (take k ns) ++ paths (id + j) (getD ns k [] ∷ [])) l ∙ ap (λ (xs : List ℕ). paths id (take k ns) ++ xs) (append-nil (recordBytes (id + k) (path (getD ns k []))))
+
+pub every-get : {A : Type 0} (p : A → Bool) (xs : List A) (k : ℕ) (d : A) → every p xs ≡ true → k < length xs → p (getD xs k d) ≡ true
+every-get p [] k d e h = absurd (omega arith)
+every-get p (x ∷ xs) zero d e h = and-parts (p x) (every p xs) e .0
+every-get p (x ∷ xs) (suc k) d e h = every-get p xs k d (and-parts (p x) (every p xs) e .1) (omega arith)
+
+-- room for all of them is room for the k-th, where those before it are appended
+pub room-at : (s t : State) (id : ℕ) (ns : List (List ℕ)) (k : ℕ) (n : List ℕ) → k < length ns → n ≡ getD ns k [] → t ≡ with-appended (paths id (take k ns)) s →
+  length (liveOf s) + length (paths id ns) ≤ s .capacity → length (liveOf t) + length (recordBytes (id + k) (path n)) ≤ t .capacity
+room-at s t id ns k n h e f r =
+    let xs : List ℕ = paths id (take k ns) in
+    let ys : List ℕ = recordBytes (id + k) (path (getD ns k [])) in
+    let zs : List ℕ = paths (id + (k + 1)) (drop (k + 1) ns) in
+    let l : length (liveOf t) ≡ length (liveOf s) + length xs = ap (λ (u : State). length (liveOf u)) f ∙ live-more xs s in
+    let c : t .capacity ≡ s .capacity = ap (λ (u : State). u .capacity) f in
+    let w : length (recordBytes (id + k) (path n)) ≡ length ys = ap (λ (m : List ℕ). length (recordBytes (id + k) (path m))) e in
+    omega (arith, l, c, w, r, ap length (paths-at id ns k h), length-append (xs ++ ys) zs, length-append xs ys)

@@ -1,19 +1,24 @@
 // Appending the records of a note, each as an append of its own.
 ghost use mathlib.Core.Path.{_≡_};
 ghost use mathlib.Core.Bool.{true};
+ghost use mathlib.Core.List.{map};
 ghost use Prim.Native.Nat.{_+_, _≤_};
 ghost use lib.ListN.{length};
 ghost use Rattle.image.specs.Names.{isName};
-ghost use Rattle.image.specs.Bytes.{path, deps, recordBytes};
+ghost use Rattle.terms.specs.Lists.{every};
+ghost use Rattle.image.specs.Bytes.{path, deps, recordBytes, recordsBytes};
 ghost use Rattle.image.specs.View.{entryOf};
 ghost use Rattle.depslog.specs.State.{liveOf};
 ghost use Rattle.depslog.specs.Appending.{AppendedAll};
+ghost use Rattle.depslog.specs.FreshNames.{freshNames};
+use super::fresh::Fresh;
 use image::DepsEntry;
 use image::Name;
 use image::write_deps;
 use image::write_path;
 use medium::Fault;
 use medium::Medium;
+use notes::part;
 
 // Appends the path record that gives a name this id.
 fn append_path<M: Medium>(medium: &mut M, id: u32, name: &[u8]) -> Result<(), Fault>
@@ -45,4 +50,18 @@ pub(super) fn append_deps<M: Medium>(
         Ok(n) => medium.append(&record[0..n]),
         Err(_) => unreachable(),
     }
+}
+
+// Appends the path record of each new name, whose ids go on from `first`.
+pub(super) fn append_paths<M: Medium>(medium: &mut M, first: usize, bytes: &[u8], fresh: &Fresh) -> Result<(), Fault>
+    requires on { ⌜ M·Medium .state (now medium) .power ≡ true ⌝ }
+    requires small { ⌜ first ≤ 256 ⌝ }
+    requires named { ⌜ every isName (freshNames (now bytes) (now fresh)) ≡ true ⌝ }
+    requires room { ⌜ length (liveOf (M·Medium .state (now medium))) + length (recordsBytes first (map path (freshNames (now bytes) (now fresh)))) ≤ M·Medium .state (now medium) .capacity ⌝ }
+    ensures { λ r. ⌜ AppendedAll (recordsBytes first (map path (freshNames (now (bytes .entry)) (now (fresh .entry))))) (M·Medium .state (now (medium .entry))) r (M·Medium .state (now (medium .exit))) ⌝ }
+{
+    for k in 0..fresh.count {
+        append_path(medium, (first + k) as u32, part(bytes, fresh.places[k]))?;
+    }
+    Ok(())
 }

@@ -2,6 +2,7 @@
 mod calls;
 mod finding;
 mod fresh;
+mod learning;
 mod log;
 mod names;
 mod opened;

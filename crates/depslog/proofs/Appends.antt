@@ -9,8 +9,9 @@ use lib.Dec.{leb}
 use lib.ListN.{length, getD, take, drop}
 use Rattle.std.specs.declared.result.Result.{Result}
 use Rattle.std.specs.declared.result.Result.the-variants.{Ok, Err}
+use Rattle.std.specs.Results.{isErr}
 use Rattle.std.proofs.shelf.Lists.{append-assoc, append-nil, length-append, take-at, take-all, take-append-le, take-append-drop, take-more, length-take-le}
-use Rattle.std.proofs.shelf.Tests.{cases-lt, le-leb, cond-true, true≢false, and-parts}
+use Rattle.std.proofs.shelf.Tests.{cases-lt, le-leb, cond-true, true≢false, false≢true, and-parts}
 use Rattle.medium.specs.declared.Fault.{Fault}
 use Rattle.medium.specs.declared.Fault.the-variants.{Off, Full}
 use Rattle.medium.specs.State.{Bytes, State, all, settled, more, cut, with-appended}
@@ -98,17 +99,17 @@ appended-more s t u xs ys e f =
 
 -- the power failed in a piece, with more to come
 pub appended-broke : (s t u : State) (xs ys zs : List ℕ) (f : Fault) → s .power ≡ true → t ≡ with-appended xs s → AppendedAll {A = Unit {0}} ys t (Err f) u →
-  AppendedAll {A = Unit {0}} ((xs ++ ys) ++ zs) s (Err f) u
+    AppendedAll {A = Unit {0}} ((xs ++ ys) ++ zs) s (Err f) u
 appended-broke s t u xs ys zs Full on e a = absurd (a .over)
 appended-broke s t u xs ys zs Off on e a =
     elim (subst (λ (v : State). AppendedAll {A = Unit {0}} ys v (Err Off) u) e a) [
       | inl i ↦ absurd (true≢false (sym on ∙ i .off))
       | inr b ↦ inr (record {
-          on = on;
-          fits = tt;
-          fell = fell-wider (s .live) (xs ++ ys) zs s u (subst (λ (c : Bytes). Fell c s u) (more-more (s .live) xs ys)
-            (record { off = b .fell .off; same = b .fell .same; kept = b .fell .kept; live = b .fell .live; draft-quiet = b .fell .draft-quiet; draft-fits = b .fell .draft-fits }))
-        })
+        on = on;
+        fits = tt;
+        fell = fell-wider (s .live) (xs ++ ys) zs s u (subst (λ (c : Bytes). Fell c s u) (more-more (s .live) xs ys)
+            (record { off = b .fell .off; same = b .fell .same; kept = b .fell .kept; live = b .fell .live; draft-quiet = b .fell .draft-quiet; draft-fits = b .fell .draft-fits }));
+      })
     ]
 
 -- Path records one after the other --------------------------------------------------------------------------------------------
@@ -124,13 +125,13 @@ paths-both id (n ∷ ns) ms =
 
 -- those before the k-th, the k-th, and those behind it
 pub paths-at : (id : ℕ) (ns : List (List ℕ)) (k : ℕ) → k < length ns →
-  paths id ns ≡ (paths id (take k ns) ++ recordBytes (id + k) (path (getD ns k []))) ++ paths (id + (k + 1)) (drop (k + 1) ns)
+    paths id ns ≡ (paths id (take k ns) ++ recordBytes (id + k) (path (getD ns k []))) ++ paths (id + (k + 1)) (drop (k + 1) ns)
 paths-at id ns k h =
     let n : List ℕ = getD ns k [] in
     let l : length (take k ns) ≡ k = length-take-le k ns (omega (arith, h)) in
     let l′ : length (take k ns ++ n ∷ []) ≡ k + 1 = length-append (take k ns) (n ∷ []) ∙ omega (arith, l) in
     let one : paths id (take k ns ++ n ∷ []) ≡ paths id (take k ns) ++ recordBytes (id + k) (path n) =
-      paths-both id (take k ns) (n ∷ []) ∙ ap (λ (j : ℕ). paths id (take k ns) ++ paths (id + j) (n ∷ [])) l ∙ ap (λ (xs : List ℕ). paths id (take k ns) ++ xs) (append-nil (recordBytes (id + k) (path n))) in
+    paths-both id (take k ns) (n ∷ []) ∙ ap (λ (j : ℕ). paths id (take k ns) ++ paths (id + j) (n ∷ [])) l ∙ ap (λ (xs : List ℕ). paths id (take k ns) ++ xs) (append-nil (recordBytes (id + k) (path n))) in
     ap (paths id) (sym (take-append-drop (k + 1) ns) ∙ ap (λ (xs : List (List ℕ)). xs ++ drop (k + 1) ns) (take-more ns k [] h)) ∙
     paths-both id (take k ns ++ n ∷ []) (drop (k + 1) ns) ∙
     ap (λ (j : ℕ). paths id (take k ns ++ n ∷ []) ++ paths (id + j) (drop (k + 1) ns)) l′ ∙ ap (λ (xs : List ℕ). xs ++ paths (id + (k + 1)) (drop (k + 1) ns)) one
@@ -148,7 +149,7 @@ every-get p (x ∷ xs) (suc k) d e h = every-get p xs k d (and-parts (p x) (ever
 
 -- room for all of them is room for the k-th, where those before it are appended
 pub room-at : (s t : State) (id : ℕ) (ns : List (List ℕ)) (k : ℕ) (n : List ℕ) → k < length ns → n ≡ getD ns k [] → t ≡ with-appended (paths id (take k ns)) s →
-  length (liveOf s) + length (paths id ns) ≤ s .capacity → length (liveOf t) + length (recordBytes (id + k) (path n)) ≤ t .capacity
+    length (liveOf s) + length (paths id ns) ≤ s .capacity → length (liveOf t) + length (recordBytes (id + k) (path n)) ≤ t .capacity
 room-at s t id ns k n h e f r =
     let xs : List ℕ = paths id (take k ns) in
     let ys : List ℕ = recordBytes (id + k) (path (getD ns k [])) in
@@ -157,3 +158,22 @@ room-at s t id ns k n h e f r =
     let c : t .capacity ≡ s .capacity = ap (λ (u : State). u .capacity) f in
     let w : length (recordBytes (id + k) (path n)) ≡ length ys = ap (λ (m : List ℕ). length (recordBytes (id + k) (path m))) e in
     omega (arith, l, c, w, r, ap length (paths-at id ns k h), length-append (xs ++ ys) zs, length-append xs ys)
+
+-- A whole note -----------------------------------------------------------------------------------------------------------------
+
+-- the power was off, or failed among the first bytes
+pub first-broke : (s u : State) (xs ys : List ℕ) (r : Result (Unit {0}) Fault) → isErr r ≡ true → AppendedAll xs s r u → AppendedAll {A = Unit {0}} (xs ++ ys) s (Err Off) u
+first-broke s u xs ys (Ok x) e a = absurd (false≢true e)
+first-broke s u xs ys (Err Full) e a = absurd (a .over)
+first-broke s u xs ys (Err Off) e a = elim a [ inl i ↦ inl i | inr b ↦ inr (record { on = b .on; fits = tt; fell = fell-wider (s .live) xs ys s u (b .fell) }) ]
+
+pub first-granted : (s u : State) (xs : List ℕ) (r : Result (Unit {0}) Fault) → isErr r ≡ false → AppendedAll xs s r u → u ≡ with-appended xs s
+first-granted s u xs (Ok x) e a = a .after
+first-granted s u xs (Err f) e a = absurd (true≢false e)
+
+pub last-granted : (s t u : State) (xs ys : List ℕ) → s .power ≡ true → t ≡ with-appended xs s → AppendedAll {A = Unit {0}} ys t (Ok tt) u → AppendedAll {A = Unit {0}} (xs ++ ys) s (Ok tt) u
+last-granted s t u xs ys on e a = record { on = on; fits = tt; after = appended-more s t u xs ys e (a .after) }
+
+pub last-broke : (s t u : State) (xs ys : List ℕ) (f : Fault) → s .power ≡ true → t ≡ with-appended xs s → AppendedAll {A = Unit {0}} ys t (Err f) u → AppendedAll {A = Unit {0}} (xs ++ ys) s (Err Off) u
+last-broke s t u xs ys Full on e a = absurd (a .over)
+last-broke s t u xs ys Off on e a = subst (λ (zs : List ℕ). AppendedAll {A = Unit {0}} zs s (Err Off) u) (append-nil (xs ++ ys)) (appended-broke s t u xs ys [] Off on e a)

@@ -6,3 +6,4 @@ pub mod Opening
 pub mod Noting
 pub mod FreshNames
 pub mod Appending
+pub mod NoteCall

@@ -34,9 +34,10 @@ loop-k-again c =
     let d : drop k ns ≡ n ∷ rest = drop-more ns k [] h in
     let w : AllWritable t (map path (n ∷ rest)) = subst (λ (xs : List (List ℕ)). AllWritable t (map path xs)) d (c .loop-k .inv .0) in
     let e : view (c .learn-path .last .self) ≡ learn t (path n) =
-      learned t n (c .part .result .now) rest (c .learn-path .result) (view (c .learn-path .last .self)) (c .part .ensures ∙ sym (fresh-at bytes f k none (c .loop-k-test .taken))) w (c .learn-path .ensures) in
-    (subst (λ (u : Table). AllWritable u (map path rest)) (sym e) (w .1),
-      ap (λ (u : Table). learnAll u (map path rest)) e ∙ ap (λ (xs : List (List ℕ)). learnAll t (map path xs)) (sym d) ∙ c .loop-k .inv .1)
+    learned t n (c .part .result .now) rest (c .learn-path .result) (view (c .learn-path .last .self)) (c .part .ensures ∙ sym (fresh-at bytes f k none (c .loop-k-test .taken))) w (c .learn-path .ensures) in (
+      subst (λ (u : Table). AllWritable u (map path rest)) (sym e) (w .1),
+      ap (λ (u : Table). learnAll u (map path rest)) e ∙ ap (λ (xs : List (List ℕ)). learnAll t (map path xs)) (sym d) ∙ c .loop-k .inv .1,
+    )
 
 pub returns : need.returns
 returns c =

@@ -24,9 +24,10 @@ loop-k-again c =
     let h : k < length ns = omega (arith, fresh-long bytes f, c .loop-k-test .taken) in
     let n : List ℕ = getD ns k [] in
     let e : length (c .part-len .result .now) ≡ length n = ap length (c .part-len .ensures ∙ sym (fresh-at bytes f k none (c .loop-k-test .taken))) in
-    let q = name-parts n (every-get isName ns k [] (c .pre) h) in
-    ((λ id. omega (arith, e, c .loop-k .inv .0 id, length-path (id + k) n, ap length (paths-more id ns k h), length-append (paths id (take k ns)) (recordBytes (id + k) (path n)))),
-      omega (arith, e, q .short, c .loop-k .inv .1))
+    let q = name-parts n (every-get isName ns k [] (c .pre) h) in (
+      (λ id. omega (arith, e, c .loop-k .inv .0 id, length-path (id + k) n, ap length (paths-more id ns k h), length-append (paths id (take k ns)) (recordBytes (id + k) (path n)))),
+      omega (arith, e, q .short, c .loop-k .inv .1),
+    )
 
 pub returns : need.returns
 returns c =
@@ -36,5 +37,5 @@ returns c =
     let all = take-all (c .loop-k .k) ns (omega (arith, fresh-long bytes f, c .loop-k-test .left)) in
     record {
       value = λ id. c .loop-k .inv .0 id ∙ ap (λ (xs : List (List ℕ)). length (paths id xs)) all;
-      bound = omega (arith, c .loop-k .inv .1, c .loop-k .kept .k-end, f .few)
+      bound = omega (arith, c .loop-k .inv .1, c .loop-k .kept .k-end, f .few);
     }

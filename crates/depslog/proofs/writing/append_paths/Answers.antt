@@ -29,7 +29,7 @@ append-path-requires g c κs =
     let e : c .part .result .now ≡ getD ns k [] = c .part .ensures ∙ sym (fresh-at bytes f k none (c .loop-k-test .taken)) in
     record {
       named = ap isName e ∙ every-get isName ns k [] (c .pre .named) h;
-      room = room-at (st (c .args .medium .now)) (st (c .loop-k .medium)) (c .args .first) ns k (c .part .result .now) h e (c .loop-k .inv) (c .pre .room)
+      room = room-at (st (c .args .medium .now)) (st (c .loop-k .medium)) (c .args .first) ns k (c .part .result .now) h e (c .loop-k .inv) (c .pre .room);
     }
 
 pub returns-in-Break-append-path : need.returns-in-Break-append-path
@@ -78,5 +78,5 @@ returns g c =
     record {
       on = c .pre .on;
       fits = tt;
-      after = c .loop-k .inv ∙ ap (λ (xs : List (List ℕ)). with-appended (paths (c .args .first) xs) s) (take-all k ns (omega (arith, fresh-long bytes f, c .loop-k-test .left)))
+      after = c .loop-k .inv ∙ ap (λ (xs : List (List ℕ)). with-appended (paths (c .args .first) xs) s) (take-all k ns (omega (arith, fresh-long bytes f, c .loop-k-test .left)));
     }

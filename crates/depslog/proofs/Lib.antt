@@ -3,6 +3,8 @@ pub mod Cuts
 pub mod Freshly
 pub mod Appends
 pub mod Wrote
+pub mod Noted
+pub mod NoteCases
 pub mod Opens
 pub mod Faults
 pub mod OpenCases

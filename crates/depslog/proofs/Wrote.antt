@@ -1,25 +1,18 @@
 -- What was written of a note, by what its parts answered. Assumes nothing.
 use mathlib.Core.Path.{_≡_, refl, sym, ap, subst, _∙_}
 use mathlib.Core.Bool.{Bool, true, false, cond, _&&_}
-use mathlib.Core.Logic.{_⊎_, inl, inr}
 use mathlib.Core.List.{List, _++_}
 use Prim.Native.Nat.{ℕ, _+_, _*_, _≤_}
 use native.Mathlib.Omega.{arith}
 use lib.Dec.{leb, ltb}
 use lib.ListN.{length}
-use Rattle.std.specs.declared.result.Result.{Result}
-use Rattle.std.specs.declared.result.Result.the-variants.{Ok, Err}
 use Rattle.std.proofs.shelf.Lists.{length-append}
 use Rattle.std.proofs.shelf.Tests.{leb-true, leb-false, lt-ltb, le-ltb}
-use Rattle.medium.specs.declared.Fault.the-variants.{Off}
 use Rattle.medium.specs.State.{State, with-appended}
-use Rattle.terms.specs.declared.Refusal.{Refusal}
-use Rattle.terms.specs.declared.Refusal.the-variants.{PowerOff, Full}
 use Rattle.image.specs.Bytes.{deps, recordBytes}
 use Rattle.image.proofs.Writes.{length-deps}
 use Rattle.depslog.specs.State.{liveOf}
-use Rattle.depslog.specs.Appending.{AppendedAll}
-use Rattle.depslog.specs.NoteCall.{noRoom, WrittenOn}
+use Rattle.depslog.specs.NoteCall.{noRoom}
 use Rattle.depslog.proofs.Appends.{live-more}
 
 -- what a note takes: its path records, and its deps record
@@ -36,15 +29,6 @@ room-some s bs used n u l e = omega (arith, u, l, leb-true (used + n) (s .capaci
 
 pub room-there : (s : State) (bs : List ℕ) → s .power ≡ true → length (liveOf s) + length bs ≤ s .capacity → noRoom s bs ≡ false
 room-there s bs on h = ap (λ (b : Bool). b && ltb (s .capacity) (length (liveOf s) + length bs)) on ∙ le-ltb (s .capacity) (length (liveOf s) + length bs) h
-
-pub written-full : (s : State) (bs : List ℕ) → noRoom s bs ≡ true → WrittenOn bs s (Err Full) s
-written-full s bs e = rw e (refl, refl)
-
-pub written-all : (s t : State) (bs : List ℕ) → noRoom s bs ≡ false → AppendedAll {A = Unit {0}} bs s (Ok tt) t → WrittenOn bs s (Ok tt) t
-written-all s t bs e a = rw e (inl (refl, a))
-
-pub written-off : (s t : State) (bs : List ℕ) → noRoom s bs ≡ false → AppendedAll {A = Unit {0}} bs s (Err Off) t → WrittenOn bs s (Err PowerOff) t
-written-off s t bs e a = rw e (inr (refl, a))
 
 -- behind the first bytes there is room for the last
 pub room-after : (s t : State) (xs ys : List ℕ) → length (liveOf s) + length (xs ++ ys) ≤ s .capacity → t ≡ with-appended xs s → length (liveOf t) + length ys ≤ t .capacity

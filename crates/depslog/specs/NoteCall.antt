@@ -1,8 +1,7 @@
 -- What a note answers, and what it leaves. Assumes nothing.
 use mathlib.Core.Path.{_≡_}
-use mathlib.Core.Bool.{Bool, cond, not, _&&_}
+use mathlib.Core.Bool.{Bool, true, false, cond, not, _&&_}
 use mathlib.Core.List.{List, _∷_}
-use mathlib.Core.Logic.{_⊎_}
 use Prim.Native.Nat.{ℕ, _+_}
 use lib.Dec.{ltb}
 use lib.ListN.{length}
@@ -10,7 +9,7 @@ use Rattle.std.specs.declared.option.Option.{Option}
 use Rattle.std.specs.declared.option.Option.the-variants.{None}
 use Rattle.std.specs.declared.result.Result.{Result}
 use Rattle.std.specs.declared.result.Result.the-variants.{Ok, Err}
-use Rattle.medium.specs.declared.Fault.the-variants.{Off}
+use Rattle.medium.specs.declared.Fault.the-variants as Fault
 use Rattle.medium.specs.State.{State}
 use Rattle.terms.specs.declared.Place.{Place}
 use Rattle.terms.specs.declared.Refusal.{Refusal}
@@ -18,6 +17,8 @@ use Rattle.terms.specs.declared.Refusal.the-variants.{PowerOff, Full, Closed, T
 use Rattle.image.specs.Tables.{Table}
 use Rattle.notes.specs.Notes.{Note, unchanged, noteBytes, noteTable}
 use Rattle.notes.specs.Meant.{meant}
+use Rattle.depslog.specs.declared.writing.Written.{Written}
+use Rattle.depslog.specs.declared.writing.Written.the-variants.{All, NoRoom, Off}
 use Rattle.depslog.specs.State.{LogState, liveOf}
 use Rattle.depslog.specs.Checks.{refuse}
 use Rattle.depslog.specs.Calls.{Judged, Ended}
@@ -48,7 +49,8 @@ NotedLog bytes output mtime inputs s r t =
     Judged (noteFault (s .isOpen) (s .table) bytes output mtime inputs) s r t
     (cond (unchanged (s .table) (meant bytes output mtime inputs)) ((r ≡ Ok tt) × (t ≡ s)) (NewlyNoted (meant bytes output mtime inputs) s r t))
 
--- bytes were appended to the medium, or refused for want of room, or its power was off or failed
-abbrev pub WrittenOn : List ℕ → State → Result (Unit {0}) Refusal → State → Type 0
-WrittenOn bs m r n =
-    cond (noRoom m bs) ((r ≡ Err Full) × (n ≡ m)) (((r ≡ Ok tt) × AppendedAll {A = Unit {0}} bs m (Ok tt) n) ⊎ ((r ≡ Err PowerOff) × AppendedAll {A = Unit {0}} bs m (Err Off) n))
+-- All of the bytes were appended; or there was no room, and nothing changed; or the power was off or failed.
+abbrev pub WrittenOn : List ℕ → State → Written → State → Type 0
+WrittenOn bs m All n = (noRoom m bs ≡ false) × AppendedAll {A = Unit {0}} bs m (Ok tt) n
+WrittenOn bs m NoRoom n = (noRoom m bs ≡ true) × (n ≡ m)
+WrittenOn bs m Off n = (noRoom m bs ≡ false) × AppendedAll {A = Unit {0}} bs m (Err Fault.Off) n

@@ -5,6 +5,7 @@ mod fresh;
 mod learning;
 mod log;
 mod names;
+mod noting;
 mod opened;
 mod opening;
 mod replace;

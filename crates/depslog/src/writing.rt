@@ -22,7 +22,6 @@ use medium::Fault;
 use medium::Medium;
 use medium::fits;
 use notes::part;
-use terms::Refusal;
 
 // Appends the path record that gives a name this id.
 fn append_path<M: Medium>(medium: &mut M, id: u32, name: &[u8]) -> Result<(), Fault>
@@ -71,6 +70,13 @@ fn append_paths<M: Medium>(
     Ok(())
 }
 
+// What became of the records of a note: all are appended, there is no room for them, or the power was off or failed.
+pub(super) enum Written {
+    All,
+    NoRoom,
+    Off,
+}
+
 // Appends the records of a note, where there is room for all of them.
 pub(super) fn append_note<M: Medium>(
     medium: &mut M,
@@ -79,23 +85,23 @@ pub(super) fn append_note<M: Medium>(
     fresh: &Fresh,
     output: u32,
     entry: &DepsEntry,
-) -> Result<(), Refusal>
+) -> Written
     requires small { ⌜ first ≤ 256 ⌝ }
     requires named { ⌜ every isName (freshNames (now bytes) (now fresh)) ≡ true ⌝ }
     ensures { λ r. ⌜ WrittenOn (recordsBytes first (map path (freshNames (now (bytes .entry)) (now (fresh .entry)))) ++ recordBytes 0 (deps output (entryOf (now (entry .entry)) .mtime) (entryOf (now (entry .entry)) .inputs))) (M·Medium .state (now (medium .entry))) r (M·Medium .state (now (medium .exit))) ⌝ }
 {
     let Ok(used) = medium.length() else {
-        return Err(Refusal::PowerOff);
+        return Written::Off;
     };
     let need = paths_length(bytes, fresh) + 16 + 4 * entry.inputs().len();
     if !fits(used, need, medium.capacity()) {
-        return Err(Refusal::Full);
+        return Written::NoRoom;
     }
     if append_paths(medium, first, bytes, fresh).is_err() {
-        return Err(Refusal::PowerOff);
+        return Written::Off;
     }
     match append_deps(medium, output, entry) {
-        Ok(()) => Ok(()),
-        Err(_) => Err(Refusal::PowerOff),
+        Ok(()) => Written::All,
+        Err(_) => Written::Off,
     }
 }

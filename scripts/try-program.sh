@@ -40,6 +40,23 @@ all() (
     one find missing.deps a.o
     one find fifteen.deps a.o
     one find tiny.deps ''
+    cp tiny.deps noted.deps
+    one note noted.deps a.o 9 a.c
+    stat -c '%s bytes' noted.deps
+    one note noted.deps a.o 9 a.c
+    stat -c '%s bytes' noted.deps
+    one find noted.deps a.o
+    one note noted.deps a.o soon a.c
+    one note noted.deps a.o 9 ''
+    cp cut.deps mended.deps
+    one note mended.deps a.o 7 a.c ab.h
+    cmp mended.deps tiny.deps && echo "the tail is dropped, and the note stands"
+    one note new.deps a.o 7 a.c ab.h
+    cmp new.deps tiny.deps && echo "a new log has the bytes of the example"
+    mkdir held && one note held a.o 7 a.c
+    one note held/none/new.deps a.o 7 a.c
+    one note fifteen.deps a.o 7 a.c
+    ls ./*.draft 2>/dev/null || echo "no temporary file is left"
     cmp tiny.deps "$examples/tiny.deps" && cmp cut.deps "$examples/cut.deps" && echo "the logs are as they were"
 )
 if [ "${1:-}" = --write ]; then

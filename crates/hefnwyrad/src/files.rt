@@ -1,7 +1,9 @@
-// Reading a log from a file.
+// Reading a log from a file, and replacing the file.
 use std::fs;
+use std::fs::File;
 use std::io;
 use std::io::ErrorKind;
+use std::io::Write;
 
 // The most bytes of a log: the capacity of the medium that it is read into.
 pub(super) const LONGEST: usize = 65_536;
@@ -30,6 +32,29 @@ pub(super) fn read_log(
         Err(e) => {
             eprintln!(rt, "hefnwyrad: {path}: cannot be read: {e}")?;
             Ok(None)
+        }
+    }
+}
+
+fn write_synced(rt: &LibcRuntime, path: &str, bytes: &[u8]) -> io::Result<()> {
+    let mut file = File::create(rt, path)?;
+    file.write_all(bytes)?;
+    file.sync_all()
+}
+
+// Replaces a log: the bytes go to a temporary file beside it, which is synced and renamed over it. False, and a line on standard error, where that cannot be done.
+pub(super) fn replace_log(rt: &LibcRuntime, path: &str, bytes: &[u8]) -> io::Result<bool> {
+    let draft = format!(rt.alloc(), "{path}.draft")?;
+    let done = match write_synced(rt, draft.as_str(), bytes) {
+        Ok(()) => fs::rename(rt, draft.as_str(), path),
+        Err(e) => Err(e),
+    };
+    match done {
+        Ok(()) => Ok(true),
+        Err(e) => {
+            eprintln!(rt, "hefnwyrad: {path}: cannot be replaced: {e}")?;
+            let _ = fs::remove_file(rt, draft.as_str());
+            Ok(false)
         }
     }
 }

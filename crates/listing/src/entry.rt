@@ -15,11 +15,15 @@ use words::all_of;
 use words::begins;
 use words::span_end;
 
+const LONGEST: usize = 120;
+
+const EARLIEST: u64 = 1;
+
 // Whether some bytes are a name: 1 to 120, none of them zero.
 fn is_name(bytes: &[u8]) -> bool
     ensures { λ r. ⌜ r ≡ isName (now (bytes .entry)) ⌝ }
 {
-    !bytes.is_empty() && bytes.len() <= 120 && all_of(bytes, 0, Class::Nonzero)
+    !bytes.is_empty() && bytes.len() <= LONGEST && all_of(bytes, 0, Class::Nonzero)
 }
 
 // The row that the line from `at` on says, which ends before `end`; none where it is not understood.
@@ -35,7 +39,7 @@ pub(super) fn row_at(text: &[u8], end: usize, at: usize) -> Option<Row>
     let Some(mtime) = number(part(line, at, past - at)) else {
         return None;
     };
-    if mtime == 0 {
+    if mtime < EARLIEST {
         return None;
     }
     if !begins(line, past, b" ") {

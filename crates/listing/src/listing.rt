@@ -2,7 +2,7 @@
 use super::row::Row;
 
 #[derive(Clone, Copy)]
-pub struct Listing<'a> {
-    pub text: &'a [u8],
-    pub rows: &'a [Row],
+pub struct Listing<'t, 'r> {
+    pub text: &'t [u8],
+    pub rows: &'r [Row],
 }

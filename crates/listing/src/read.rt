@@ -23,6 +23,9 @@ use terms::Refusal;
 use words::Class;
 use words::span_end;
 
+// How many rows a listing may have.
+const ROWS: usize = 512;
+
 // The refusal for what is wrong with a line.
 pub fn listing_refusal(fault: At<ListingFault>) -> Refusal
     ensures { λ r. ⌜ r ≡ listingRefusal (fault .offset) (fault .value) ⌝ }
@@ -49,7 +52,7 @@ fn add_row(rows: &mut GrowList<Row>, text: &[u8], end: usize, at: usize) -> Resu
     if first(&Lines { bytes: text }, rows.as_slice(), name).is_some() {
         return Err(ListingFault::BadLine);
     }
-    if rows.len() >= 512 {
+    if rows.len() >= ROWS {
         return Err(ListingFault::PastRows);
     }
     rows.push(row);
@@ -85,11 +88,11 @@ fn add_rows(rows: &mut GrowList<Row>, text: &[u8]) -> Result<(), At<ListingFault
 
 // What a listing says, or the first refusal: memory too short for 512 rows, then the first line that breaks a rule. Behind the end of what is handed back,
 // and after a refusal, the memory is free.
-pub fn read_listing<'a>(text: &'a [u8], rows: &'a mut [Row]) -> Result<Listing<'a>, Refusal>
+pub fn read_listing<'t, 'r>(text: &'t [u8], rows: &'r mut [Row]) -> Result<Listing<'t, 'r>, Refusal>
     ensures { λ r. ⌜ rowsShown r ≡ listingOutcome (length (now (rows .entry))) (readListing (now (text .entry))) ⌝ }
 {
-    if rows.len() < 512 {
-        return Err(Refusal::MemoryShort(512));
+    if rows.len() < ROWS {
+        return Err(Refusal::MemoryShort(ROWS));
     }
     let mut list = GrowList::new(rows);
     match add_rows(&mut list, text) {

@@ -10,6 +10,7 @@ use super::built::BuiltInputs;
 use super::groups::behind_bar;
 use super::groups::behind_bars;
 use super::groups::group_at;
+use super::limits::LEAST;
 use words::Token;
 use words::Word;
 use words::next_token;
@@ -38,7 +39,7 @@ pub(super) fn build_at(bytes: &[u8], at: usize) -> Option<Built>
     ensures sums { λ r. ⌜ BuildSums (now (bytes .entry)) r ⌝ }
 {
     let outputs = group_at(bytes, at);
-    if outputs.count == 0 {
+    if outputs.count < LEAST {
         return None;
     }
     let Token::Colon = outputs.mark else {

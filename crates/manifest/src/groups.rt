@@ -4,6 +4,7 @@ ghost use mathlib.Core.Path.{_≡_};
 ghost use Rattle.manifest.specs.Building.{isBar, isBars, following, behind};
 ghost use Rattle.manifest.specs.Groups.{rest, groupNames, Sums, Gathered};
 use super::group::Group;
+use super::limits::LONGEST;
 use words::Token;
 use words::next_token;
 
@@ -19,7 +20,7 @@ pub(super) fn group_at(bytes: &[u8], at: usize) -> Group
         match token {
             Token::Word(word) => {
                 count += 1;
-                long = long || word.length > 120;
+                long = long || word.length > LONGEST;
                 here = next;
             }
             _ => {

@@ -7,6 +7,7 @@ mod group;
 mod groups;
 mod keys;
 mod kind;
+mod limits;
 mod line;
 mod makers;
 mod manifest;

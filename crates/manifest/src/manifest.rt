@@ -4,9 +4,9 @@ use super::rule::Statement;
 use terms::Place;
 
 #[derive(Clone, Copy)]
-pub struct Manifest<'a> {
-    pub text: &'a [u8],
-    pub rules: &'a [Rule],
-    pub statements: &'a [Statement],
-    pub words: &'a [Place],
+pub struct Manifest<'t, 'r, 's, 'w> {
+    pub text: &'t [u8],
+    pub rules: &'r [Rule],
+    pub statements: &'s [Statement],
+    pub words: &'w [Place],
 }

@@ -5,6 +5,9 @@ ghost use Rattle.manifest.specs.Books.{readManifest};
 ghost use Rattle.manifest.specs.Outcomes.{refusalOf, manifestOutcome, bookShown};
 use super::fault::Fault;
 use super::fault::Owner;
+use super::limits::RULES;
+use super::limits::STATEMENTS;
+use super::limits::WORDS;
 use super::manifest::Manifest;
 use super::reader::Reader;
 use super::rule::Rule;
@@ -28,22 +31,22 @@ pub fn refusal(fault: At<Fault>) -> Refusal
 
 // What a manifest says, or the first refusal: memory too short for 64 rules, 128 statements or 5,120 words, then the first line that breaks a rule.
 // Behind the end of what is handed back, and after a refusal, the memory is free.
-pub fn read_manifest<'a>(
-    text: &'a [u8],
-    rules: &'a mut [Rule],
-    statements: &'a mut [Statement],
-    words: &'a mut [Place],
-) -> Result<Manifest<'a>, Refusal>
+pub fn read_manifest<'t, 'r, 's, 'w>(
+    text: &'t [u8],
+    rules: &'r mut [Rule],
+    statements: &'s mut [Statement],
+    words: &'w mut [Place],
+) -> Result<Manifest<'t, 'r, 's, 'w>, Refusal>
     ensures { λ r. ⌜ bookShown r ≡ manifestOutcome (length (now (rules .entry))) (length (now (statements .entry))) (length (now (words .entry))) (readManifest (now (text .entry))) ⌝ }
 {
-    if rules.len() < 64 {
-        return Err(Refusal::MemoryShort(64));
+    if rules.len() < RULES {
+        return Err(Refusal::MemoryShort(RULES));
     }
-    if statements.len() < 128 {
-        return Err(Refusal::MemoryShort(128));
+    if statements.len() < STATEMENTS {
+        return Err(Refusal::MemoryShort(STATEMENTS));
     }
-    if words.len() < 5120 {
-        return Err(Refusal::MemoryShort(5120));
+    if words.len() < WORDS {
+        return Err(Refusal::MemoryShort(WORDS));
     }
     let mut reader = Reader {
         rules: GrowList::new(rules),

@@ -6,9 +6,9 @@ use lists::GrowList;
 use terms::Place;
 
 #[derive(Drop)]
-pub(super) struct Reader<'a> {
-    pub(super) rules: GrowList<'a, Rule>,
-    pub(super) statements: GrowList<'a, Statement>,
-    pub(super) words: GrowList<'a, Place>,
+pub(super) struct Reader<'r, 's, 'w> {
+    pub(super) rules: GrowList<'r, Rule>,
+    pub(super) statements: GrowList<'s, Statement>,
+    pub(super) words: GrowList<'w, Place>,
     pub(super) owner: Owner,
 }

@@ -23,6 +23,11 @@ use super::built::Built;
 use super::fault::Fault;
 use super::fault::Owner;
 use super::kind::Kind;
+use super::limits::INPUTS;
+use super::limits::LONGEST;
+use super::limits::OUTPUTS;
+use super::limits::RULES;
+use super::limits::STATEMENTS;
 use super::line::kind_at;
 use super::makers::made_twice;
 use super::makers::rule_number;
@@ -49,7 +54,7 @@ fn over_limit(bytes: &[u8], built: &Built) -> bool
     let order = built.inputs.order;
     let inputs = plain.count.min(33) + implicit.count.min(33) + order.count.min(33);
     let long = built.outputs.long || plain.long || implicit.long || order.long;
-    built.outputs.count > 8 || inputs > 32 || long
+    built.outputs.count > OUTPUTS || inputs > INPUTS || long
 }
 
 // The last rule keeps deps from now on.
@@ -69,7 +74,7 @@ fn keep_last(rules: &mut GrowList<Rule>)
     rules.put(count - 1, rule);
 }
 
-impl<'a> Reader<'a> {
+impl Reader<'_, '_, '_> {
     // Declares a rule.
     fn declare(&mut self, text: &[u8], word: Word) -> Result<(), Fault>
         requires sound { ⌜ Sound (now self) ⌝ }
@@ -81,10 +86,10 @@ impl<'a> Reader<'a> {
         if rule_number(text, self.rules.as_slice(), name).is_some() {
             return Err(Fault::RuleDeclared);
         }
-        if self.rules.len() >= 64 {
+        if self.rules.len() >= RULES {
             return Err(Fault::PastLimit);
         }
-        if word.length > 120 {
+        if word.length > LONGEST {
             return Err(Fault::PastLimit);
         }
         self.rules.push(Rule {
@@ -157,7 +162,7 @@ impl<'a> Reader<'a> {
         let Some(rule) = rule_number(text, self.rules.as_slice(), name) else {
             return Err(Fault::RuleDeclared);
         };
-        if self.statements.len() >= 128 {
+        if self.statements.len() >= STATEMENTS {
             return Err(Fault::PastLimit);
         }
         if over_limit(bytes, built) {

@@ -11,8 +11,8 @@ use Rattle.listing.specs.Rows.{decimal}
 use Rattle.listing.proofs.Numbers.{decimal-least, decimal-more}
 use Rattle.listing.proofs.decimal.number.Needs as need
 
-pub returns-then-next-gt9223372036854775807 : need.returns-then-next-gt9223372036854775807
-returns-then-next-gt9223372036854775807 c =
+pub returns-then-next-gt-LATEST : need.returns-then-next-gt-LATEST
+returns-then-next-gt-LATEST c =
     let ds = c .args .digits .now in
     let n : ℕ = c .digits .value * 10 + (getD ds (c .digits .i) 0 - 48) in
     let e : decimal n (drop (c .digits .i + 1) ds) ≡ decimal 0 ds = sym (decimal-more (c .digits .value) ds (c .digits .i) (c .digits-test .taken)) ∙ c .digits .inv .0 in
@@ -23,7 +23,7 @@ returns-then-next-gt9223372036854775807 c =
 pub digits-again : need.digits-again
 digits-again c =
     let ds = c .args .digits .now in
-    (ap (λ (n : ℕ). decimal n (drop (c .digits .i + 1) ds)) (omega arith) ∙ sym (decimal-more (c .digits .value) ds (c .digits .i) (c .digits-test .taken)) ∙ c .digits .inv .0, c .if-next-gt9223372036854775807 .left)
+    (ap (λ (n : ℕ). decimal n (drop (c .digits .i + 1) ds)) (omega arith) ∙ sym (decimal-more (c .digits .value) ds (c .digits .i) (c .digits-test .taken)) ∙ c .digits .inv .0, c .if-next-gt-LATEST .left)
 
 pub returns : need.returns
 returns c =

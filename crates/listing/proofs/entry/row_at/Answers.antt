@@ -20,12 +20,12 @@ returns-in-rest c =
     let l = drop (c .args .at) (take (c .args .end) (c .args .text .now)) in
     too-large l (no-number (leb (decimal 0 (digitsOf l)) 9223372036854775807) (decimal 0 (digitsOf l)) (sym (c .in-rest .is) ∙ v))
 
-pub returns-then-mtime-eq0 : need.returns-then-mtime-eq0
-returns-then-mtime-eq0 c =
+pub returns-then-mtime-lt-EARLIEST : need.returns-then-mtime-lt-EARLIEST
+returns-then-mtime-lt-EARLIEST c =
     let v = value-is (c .args .text .now) (c .part-line .result .now) (c .args .end) (c .args .at) (c .span-end-past .result) (c .part-line .ensures) (c .span-end-past .ensures .end) (c .part .result .now) (c .number .result) (c .part .ensures) (c .number .ensures) in
     let l = drop (c .args .at) (take (c .args .end) (c .args .text .now)) in
     let k = found-number (leb (decimal 0 (digitsOf l)) 9223372036854775807) (decimal 0 (digitsOf l)) (c .in-Some .mtime) (sym (c .in-Some .is) ∙ v) in
-    no-value l (lt-leb 1 (decimal 0 (digitsOf l)) (omega (arith, k .1, c .if-mtime-eq0 .taken)))
+    no-value l (lt-leb 1 (decimal 0 (digitsOf l)) (omega (arith, k .1, c .if-mtime-lt-EARLIEST .taken)))
 
 pub returns-then-not-begins : need.returns-then-not-begins
 returns-then-not-begins c =
@@ -57,6 +57,6 @@ returns c =
     let l = drop (c .args .at) (take (c .args .end) text) in
     let k = found-number (leb (decimal 0 (digitsOf l)) 9223372036854775807) (decimal 0 (digitsOf l)) (c .in-Some .mtime) (sym (c .in-Some .is) ∙ v) in
     a-row l (ap (λ (xs : List ℕ). sameBytes (take 1 (drop (c .args .at) xs)) (codes "0")) (sym (c .part-line .ensures)) ∙ sym (c .begins .ensures) ∙ c .if-begins .left)
-    (le-leb 1 (decimal 0 (digitsOf l)) (omega (arith, k .1, c .if-mtime-eq0 .left))) (k .0)
+    (le-leb 1 (decimal 0 (digitsOf l)) (omega (arith, k .1, c .if-mtime-lt-EARLIEST .left))) (k .0)
     (space-is text L (c .args .end) (c .args .at) past (c .part-line .ensures) (c .span-end-past .ensures .end) (c .begins-2 .result) (c .begins-2 .ensures) ∙ c .if-not-begins .left)
     (ap isName (sym n) ∙ sym (c .is-name .ensures) ∙ c .if-not-is-name .left) _ (c .in-Some .mtime) (sym (c .bytes-at .ensures) ∙ n) (k .1)

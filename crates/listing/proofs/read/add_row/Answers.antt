@@ -35,11 +35,11 @@ known c =
 pub returns-then-is-some : need.returns-then-is-some
 returns-then-is-some c = record { room = refl; said = listed-before _ _ (listed (c .args .text .now) (c .in-Some .row)) (c .in-Some .ensures tt) (known (need.at·returns-then-is-some c .After-is-some) ∙ c .if-is-some .taken) }
 
-pub returns-then-len-ge512 : need.returns-then-len-ge512
-returns-then-len-ge512 c = record {
+pub returns-then-len-ge-ROWS : need.returns-then-len-ge-ROWS
+returns-then-len-ge-ROWS c = record {
   room = refl;
-  said = rows-many (map (listed (c .args .text .now)) (items (c .args .rows .now))) _ (listed (c .args .text .now) (c .in-Some .row)) (c .in-Some .ensures tt) (known (need.at·returns-then-len-ge512 c .After-is-some) ∙ c .if-is-some .left)
-      (omega (arith, c .if-len-ge512 .taken, c .len .ensures .count, length-map (items (c .args .rows .now)) (listed (c .args .text .now))));
+  said = rows-many (map (listed (c .args .text .now)) (items (c .args .rows .now))) _ (listed (c .args .text .now) (c .in-Some .row)) (c .in-Some .ensures tt) (known (need.at·returns-then-len-ge-ROWS c .After-is-some) ∙ c .if-is-some .left)
+      (omega (arith, c .if-len-ge-ROWS .taken, c .len .ensures .count, length-map (items (c .args .rows .now)) (listed (c .args .text .now))));
 }
 
 pub returns : need.returns
@@ -47,12 +47,12 @@ returns c =
     let text = c .args .text .now in
     let xs = items (c .args .rows .now) in
     let r = c .in-Some .row in
-    let h : length xs < room (c .args .rows .now) = omega (arith, c .if-len-ge512 .left, c .len .ensures .count, c .pre .room) in
+    let h : length xs < room (c .args .rows .now) = omega (arith, c .if-len-ge-ROWS .left, c .len .ensures .count, c .pre .room) in
     let e = pushed xs _ r (c .push .result) (room (c .args .rows .now)) h (c .push .ensures .full) (c .push .ensures .items) in
     let F : List Listed → Result (List Listed) ListingFault = λ rs. Ok rs in
     record {
       room = c .push .ensures .room;
       said = ap F (ap (map (listed text)) e ∙ map-push (listed text) xs r) ∙
           row-new (map (listed text) xs) _ (listed text r) (c .in-Some .ensures tt) (known (need.at·returns c .After-is-some) ∙ c .if-is-some .left)
-          (omega (arith, c .if-len-ge512 .left, c .len .ensures .count, length-map xs (listed text)));
+          (omega (arith, c .if-len-ge-ROWS .left, c .len .ensures .count, length-map xs (listed text)));
     }

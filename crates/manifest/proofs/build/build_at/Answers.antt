@@ -19,7 +19,7 @@ returns-in-rest-token c =
     let f = c .next-token-token .ensures in
     record {
       said = no-rule xs (t .1) (groupNames xs g) (t .0) (is-mark (t .0) (c .in-rest-token .not-Word)) ∙ ap (withRule (groupNames xs g)) (sym (token-is xs (g .next) (t .1) (t .0) (f .token) (f .next))) ∙
-          sym (build-as xs (c .args .at) g e ∙ past-colon xs (g .next) (groupNames xs g) (g .mark) (c .in-Colon .is) (some-words xs g (e .sums) (c .if-outputs-eq0 .left)));
+          sym (build-as xs (c .args .at) g e ∙ past-colon xs (g .next) (groupNames xs g) (g .mark) (c .in-Colon .is) (some-words xs g (e .sums) (λ z. omega (arith, c .if-outputs-lt-LEAST .left))));
       sums = tt;
     }
 
@@ -31,7 +31,7 @@ said c =
     let e = c .group-at-outputs .ensures in
     let t = c .next-token-token .result in
     let f = c .next-token-token .ensures in
-    build-as xs (c .args .at) g e ∙ past-colon xs (g .next) (groupNames xs g) (g .mark) (c .in-Colon .is) (some-words xs g (e .sums) (c .if-outputs-eq0 .left)) ∙
+    build-as xs (c .args .at) g e ∙ past-colon xs (g .next) (groupNames xs g) (g .mark) (c .in-Colon .is) (some-words xs g (e .sums) (λ z. omega (arith, c .if-outputs-lt-LEAST .left))) ∙
     ap (withRule (groupNames xs g)) (word-first xs (g .next) (t .1) (t .0) (c .in-Word .rule) (f .token) (f .next) (c .in-Word .is))
 
 pub returns-in-Some : need.returns-in-Some

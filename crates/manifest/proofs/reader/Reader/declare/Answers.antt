@@ -28,18 +28,18 @@ new c =
     ap (λ (rs : List Rule). ruleNumber (map D rs) (unescaped (c .bytes-at .result .now))) (sym (c .as-slice .ensures)) ∙
     sym (c .rule-number .ensures) ∙ none-from (c .rule-number .result) (sym (c .is-some .ensures) ∙ c .if-is-some .left)
 
-pub returns-then-len-ge64 : need.returns-then-len-ge64
-returns-then-len-ge64 c = record {
+pub returns-then-len-ge-RULES : need.returns-then-len-ge-RULES
+returns-then-len-ge-RULES c = record {
   sound = tt;
-  said = declared-many (bookOf (c .args .text .now) (c .args .self .now)) (nameAt (c .args .text .now) (c .args .word .place)) _ (new (need.at·returns-then-len-ge64 c .Else-is-some))
-      (omega (arith, c .if-len-ge64 .taken, c .len .ensures .count, length-map (items (c .args .self .now .rules)) (declaration (c .args .text .now))));
+  said = declared-many (bookOf (c .args .text .now) (c .args .self .now)) (nameAt (c .args .text .now) (c .args .word .place)) _ (new (need.at·returns-then-len-ge-RULES c .Else-is-some))
+      (omega (arith, c .if-len-ge-RULES .taken, c .len .ensures .count, length-map (items (c .args .self .now .rules)) (declaration (c .args .text .now))));
 }
 
-pub returns-then-word-gt120 : need.returns-then-word-gt120
-returns-then-word-gt120 c = record {
+pub returns-then-word-gt-LONGEST : need.returns-then-word-gt-LONGEST
+returns-then-word-gt-LONGEST c = record {
   sound = tt;
-  said = declared-long (bookOf (c .args .text .now) (c .args .self .now)) (nameAt (c .args .text .now) (c .args .word .place)) _ (new (need.at·returns-then-word-gt120 c .Else-is-some))
-      (omega (arith, c .if-word-gt120 .taken, c .pre .word));
+  said = declared-long (bookOf (c .args .text .now) (c .args .self .now)) (nameAt (c .args .text .now) (c .args .word .place)) _ (new (need.at·returns-then-word-gt-LONGEST c .Else-is-some))
+      (omega (arith, c .if-word-gt-LONGEST .taken, c .pre .word));
 }
 
 pub returns : need.returns
@@ -48,7 +48,7 @@ returns c =
     let self = c .args .self .now in
     let D = declaration text in
     let r : Rule = record { name = c .args .word .place; keeps = false } in
-    let h : length (items (self .rules)) < room (self .rules) = omega (arith, c .if-len-ge64 .left, c .len .ensures .count, c .pre .sound .rules) in
+    let h : length (items (self .rules)) < room (self .rules) = omega (arith, c .if-len-ge-RULES .left, c .len .ensures .count, c .pre .sound .rules) in
     let e = pushed (items (self .rules)) _ r (c .push .result) (room (self .rules)) h (c .push .ensures .full) (c .push .ensures .items) in
     let F : List Declaration → Result Reading Fault = λ rs. Ok (record { book = record { rules = rs; statements = map (making text (items (self .words))) (items (self .statements)) }; owner = LastRule }) in
     record {
@@ -61,5 +61,5 @@ returns c =
       };
       said = ap F (ap (map D) e ∙ map-push D (items (self .rules)) r) ∙
           declared-new (bookOf text self) (nameAt text (c .args .word .place)) _ (new (need.at·returns c .Else-is-some))
-          (omega (arith, c .if-len-ge64 .left, c .len .ensures .count, length-map (items (self .rules)) D)) (omega (arith, c .if-word-gt120 .left, c .pre .word));
+          (omega (arith, c .if-len-ge-RULES .left, c .len .ensures .count, length-map (items (self .rules)) D)) (omega (arith, c .if-word-gt-LONGEST .left, c .pre .word));
     }

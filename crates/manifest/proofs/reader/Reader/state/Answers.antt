@@ -25,11 +25,11 @@ declared c =
     ap (λ (bs : List ℕ). ruleNumber (map D (items (c .args .self .now .rules))) (unescaped bs)) (ap (λ (xs : List ℕ). placed xs p) (sym (c .part-bytes .ensures)) ∙ sym (c .bytes-at .ensures)) ∙
     ap (λ (rs : List Rule). ruleNumber (map D rs) (unescaped (c .bytes-at .result .now))) (sym (c .as-slice .ensures)) ∙ sym (c .rule-number .ensures) ∙ c .in-Some .is
 
-pub returns-then-len-ge128 : need.returns-then-len-ge128
-returns-then-len-ge128 c = record {
+pub returns-then-len-ge-STATEMENTS : need.returns-then-len-ge-STATEMENTS
+returns-then-len-ge-STATEMENTS c = record {
   sound = tt;
   said = stated-many (c .args .line) (bookOf (c .args .text .now) (c .args .self .now)) (builtShown (take (c .args .end) (c .args .text .now)) (c .args .built .now)) _ (c .in-Some .rule)
-      (declared (need.at·returns-then-len-ge128 c .In-Some)) (omega (arith, c .if-len-ge128 .taken, c .len .ensures .count, length-map (items (c .args .self .now .statements)) (making (c .args .text .now) (items (c .args .self .now .words)))));
+      (declared (need.at·returns-then-len-ge-STATEMENTS c .In-Some)) (omega (arith, c .if-len-ge-STATEMENTS .taken, c .len .ensures .count, length-map (items (c .args .self .now .statements)) (making (c .args .text .now) (items (c .args .self .now .words)))));
 }
 
 pub returns : need.returns
@@ -41,6 +41,6 @@ returns c =
       sound = c .add-statement .ensures .sound;
       said = c .add-statement .ensures .said ∙
           stated-within (c .args .line) (bookOf text self) B _ (c .in-Some .rule) (declared (need.at·returns c .In-Some)) _
-          (omega (arith, c .if-len-ge128 .left, c .len .ensures .count, length-map (items (self .statements)) (making text (items (self .words)))))
+          (omega (arith, c .if-len-ge-STATEMENTS .left, c .len .ensures .count, length-map (items (self .statements)) (making text (items (self .words)))))
           (ap (λ (xs : List ℕ). isOver (builtShown xs (c .args .built .now))) (sym (c .part-bytes .ensures)) ∙ sym (c .over-limit .ensures) ∙ c .if-over-limit .left) refl;
     }

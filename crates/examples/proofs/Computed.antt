@@ -24,4 +24,7 @@ computed = record {
   path-257th = refl;
   inputs-64 = refl;
   inputs-65 = refl;
+  manifest-read = refl;
+  listing-read = refl;
+  plan-made = refl;
 }

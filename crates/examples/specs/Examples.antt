@@ -18,6 +18,10 @@ use Rattle.image.specs.Bytes.{Record, path, deps, header, recordsBytes}
 use Rattle.image.specs.Reading.{causeNumber}
 use Rattle.image.specs.Tables.{Table, bare}
 use Rattle.image.specs.Scans.{known, goodBytes, isOver, filled}
+use Rattle.manifest.specs.Books.{readManifest}
+use Rattle.listing.specs.Rows.{readListing}
+use Rattle.planner.specs.Stale.{Meets}
+use Rattle.examples.specs.Planned.{manifestText, listingText, book, rows, world, plan}
 
 -- output a.o with mtime 7 and the inputs a.c and ab.h
 abbrev pub first : List Record
@@ -66,3 +70,6 @@ pub record Examples : Type 0 where
   pub path-257th : isOver 256 (path (codes "a")) ≡ true
   pub inputs-64 : isOver 1 (deps 0 7 (zeros 64)) ≡ false
   pub inputs-65 : isOver 1 (deps 0 7 (zeros 65)) ≡ true
+  pub manifest-read : readManifest manifestText ≡ Ok book
+  pub listing-read : readListing listingText ≡ Ok rows
+  pub plan-made : Meets world plan

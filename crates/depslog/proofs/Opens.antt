@@ -19,6 +19,7 @@ use Rattle.medium.specs.declared.Fault.{Fault}
 use Rattle.medium.specs.declared.Fault.the-variants.{Off, Full}
 use Rattle.medium.specs.Calls.{Synced, Returned, reach, filled}
 use Rattle.terms.specs.declared.Refusal.{Refusal}
+use Rattle.image.specs.Bytes.{header}
 use Rattle.image.specs.Scans.{scanned, imageOf, goodBytes}
 use Rattle.depslog.specs.State.{liveOf}
 use Rattle.depslog.specs.Checks.{mends}
@@ -78,6 +79,11 @@ pub mends-not : (live : List ℕ) (good : ℕ) → 0 < length live → good ≡ 
 mends-not live good p e h =
     let g : goodBytes live ≡ live = good-is live good p e ∙ take-all good live h in
     not-from-true (sameBytes (goodBytes live) live) (ap (λ (xs : List ℕ). sameBytes xs live) g ∙ same-self live)
+
+-- no bytes are mended to the bare header
+pub mended-empty : (live : List ℕ) (m : State) (r : Result (Unit {0}) Refusal) (n : State) → length live ≡ 0 → PutInPlace header m r n → MendedLive live m r n
+mended-empty [] m r n e w = w
+mended-empty (x ∷ xs) m r n e w = absurd (omega (arith, e))
 
 pub mended-short : (live : List ℕ) (good : ℕ) (m : State) (r : Result (Unit {0}) Refusal) (n : State) → 0 < length live → good ≡ scanned live .past → good < length live →
     PutInPlace (take (good - 0) live) m r n → MendedLive live m r n

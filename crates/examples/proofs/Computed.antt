@@ -38,4 +38,7 @@ computed = record {
   compacted-again = refl;
   moved-bytes = refl;
   moved-length = refl;
+  manifest-read = refl;
+  listing-read = refl;
+  plan-made = refl;
 }

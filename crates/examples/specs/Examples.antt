@@ -22,6 +22,10 @@ use Rattle.image.specs.Scans.{known, goodBytes, isOver, filled}
 use Rattle.notes.specs.Notes.{Note, entryOf, noteBytes, noteTable, notesTable}
 use Rattle.notes.specs.Compacting.{compactBytes, compactTable}
 use Rattle.notes.specs.Latest.{latest}
+use Rattle.manifest.specs.Books.{readManifest}
+use Rattle.listing.specs.Rows.{readListing}
+use Rattle.planner.specs.Stale.{Meets}
+use Rattle.examples.specs.Planned.{manifestText, listingText, book, rows, world, plan}
 
 -- output a.o with mtime 7 and the inputs a.c and ab.h
 abbrev pub first : List Record
@@ -102,3 +106,6 @@ pub record Examples : Type 0 where
   pub compacted-again : compactBytes (compactTable (known image96)) ≡ compactBytes (known image96)
   pub moved-bytes : sameBytes (compactBytes (compactTable moved)) (compactBytes moved) ≡ false
   pub moved-length : length (compactBytes (compactTable moved)) ≡ length (compactBytes moved)
+  pub manifest-read : readManifest manifestText ≡ Ok book
+  pub listing-read : readListing listingText ≡ Ok rows
+  pub plan-made : Meets world plan

@@ -49,5 +49,14 @@ pub(super) fn refusal_text(refusal: Refusal) -> &'static str {
         Refusal::Outside(_) => "the place is outside the bytes",
         Refusal::TooManyInputs => "there are more than 64 inputs",
         Refusal::TooManyPaths => "more than 256 paths would be known",
+        Refusal::ManifestLine(_) => "the line of the manifest is not understood",
+        Refusal::RuleDeclared(_) => "the rule is not declared above, or is declared again",
+        Refusal::MadeTwice(_) => "an output is made twice",
+        Refusal::PastLimit(_) =>
+            "the line is past a limit: 64 rules, 128 statements, 8 outputs, 32 inputs, 512 rows, 120 bytes of a name",
+        Refusal::ListingLine(_) =>
+            "the line of the listing is not understood, or its name was listed before",
+        Refusal::OnCycle(_) => "the statement is on a cycle",
+        Refusal::MemoryShort(_) => "the caller's memory is too short",
     }
 }

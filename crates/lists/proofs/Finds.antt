@@ -1,6 +1,6 @@
 -- The place of the first member for which a test holds. Assumes nothing.
-use mathlib.Core.Bool.{Bool, true, false, cond, _&&_}
-use mathlib.Core.List.{List, [], _∷_}
+use mathlib.Core.Bool.{Bool, true, false, cond, _||_}
+use mathlib.Core.List.{List, [], _∷_, map}
 use mathlib.Core.Logic.{inl, inr}
 use mathlib.Core.Path.{_≡_, refl, sym, ap, subst, _∙_}
 use Prim.Native.Nat.{ℕ, zero, suc, _+_, _<_, _≤_}
@@ -10,8 +10,9 @@ use lib.ListN.{length, drop, getD}
 use Rattle.std.specs.declared.option.Option.{Option}
 use Rattle.std.specs.declared.option.Option.the-variants.{Some, None}
 use Rattle.std.proofs.shelf.Lists.{at-drop-more, at-drop-all}
-use Rattle.std.proofs.shelf.Tests.{cases-bool, both-ways, and-from, cond-true, cond-false}
-use Rattle.terms.specs.Lists.{placeFrom}
+use Rattle.std.proofs.shelf.Tests.{cases-bool, both-ways, cond-true, cond-false}
+use Rattle.std.specs.Options.{isSome}
+use Rattle.terms.specs.Lists.{some, placeFrom}
 use Rattle.lists.specs.First.{NoneTo, First}
 
 -- a turn of a loop that looks for it
@@ -51,3 +52,18 @@ at-zero p xs (Some j) f = let e : f .0 ≡ j = omega (arith, f .1) in subst (λ 
 -- `placeFrom` gives the first
 pub place-first : {X : Type 0} (p : X → Bool) (xs : List X) (o : Option ℕ) → o ≡ placeFrom 0 p xs → First (λ x. p x ≡ true) xs o
 place-first p xs o e = subst (First (λ x. p x ≡ true) xs) (sym e) (at-zero p xs (placeFrom 0 p xs) (first-from 0 p xs))
+
+-- there is a place exactly where the test holds of some member
+pub place-some : {X : Type 0} (i : ℕ) (p : X → Bool) (xs : List X) → isSome (placeFrom i p xs) ≡ some p xs
+place-some i p [] = refl
+place-some i p (x ∷ xs) =
+    elim (p x) as (λ b. isSome (cond b (Some i) (placeFrom (i + 1) p xs)) ≡ (b || some p xs)) [ true ↦ refl | false ↦ place-some (i + 1) p xs ]
+
+-- the place in a list of what is made of the members
+pub place-map : {X Y : Type 0} (f : X → Y) (i : ℕ) (p : Y → Bool) (xs : List X) → placeFrom i p (map f xs) ≡ placeFrom i (λ x. p (f x)) xs
+place-map f i p [] = refl
+place-map f i p (x ∷ xs) = ap (cond (p (f x)) (Some i)) (place-map f (i + 1) p xs)
+
+pub some-map : {X Y : Type 0} (f : X → Y) (p : Y → Bool) (xs : List X) → some p (map f xs) ≡ some (λ x. p (f x)) xs
+some-map f p [] = refl
+some-map f p (x ∷ xs) = ap (λ (b : Bool). p (f x) || b) (some-map f p xs)

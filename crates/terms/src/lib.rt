@@ -50,6 +50,20 @@ pub enum Refusal {
     TooManyInputs,
     // More than 256 paths would be known.
     TooManyPaths,
+    // This line of the manifest is not understood.
+    ManifestLine(usize),
+    // This line of the manifest names a rule that is not declared above it, or declares one again.
+    RuleDeclared(usize),
+    // This line of the manifest has an output that is made already, or twice.
+    MadeTwice(usize),
+    // This line of the manifest or the listing is past a limit.
+    PastLimit(usize),
+    // This line of the listing is not understood, or its name was listed before.
+    ListingLine(usize),
+    // The statement in this line is the first on a cycle.
+    OnCycle(usize),
+    // The caller's memory is too short: this many elements are needed.
+    MemoryShort(usize),
 }
 
 impl Refusal {
@@ -68,6 +82,13 @@ impl Refusal {
             Refusal::Outside(_) => 9,
             Refusal::TooManyInputs => 10,
             Refusal::TooManyPaths => 11,
+            Refusal::ManifestLine(_) => 14,
+            Refusal::RuleDeclared(_) => 15,
+            Refusal::MadeTwice(_) => 16,
+            Refusal::PastLimit(_) => 17,
+            Refusal::ListingLine(_) => 18,
+            Refusal::OnCycle(_) => 19,
+            Refusal::MemoryShort(_) => 20,
         }
     }
 
@@ -80,6 +101,13 @@ impl Refusal {
             Refusal::CopyShort(length) => length,
             Refusal::NotName(index) | Refusal::Outside(index) => index,
             Refusal::TooManyInputs => 64,
+            Refusal::ManifestLine(line)
+            | Refusal::RuleDeclared(line)
+            | Refusal::MadeTwice(line)
+            | Refusal::PastLimit(line)
+            | Refusal::ListingLine(line)
+            | Refusal::OnCycle(line) => line,
+            Refusal::MemoryShort(need) => need,
             _ => 0,
         }
     }

@@ -10,7 +10,7 @@ use lib.ListN.{length, take, drop, getD}
 use Rattle.std.specs.declared.option.Option.{Option}
 use Rattle.std.specs.declared.option.Option.the-variants.{Some, None}
 use Rattle.std.specs.Options.{mapped}
-use Rattle.std.proofs.shelf.Lists.{drop-more, drop-all, length-drop}
+use Rattle.std.proofs.shelf.Lists.{drop-more, drop-all, drop-drop, length-drop}
 use Rattle.std.proofs.shelf.Tests.{cases-bool, cond-true, cond-false, or-from, eq-eqb, ne-eqb}
 use Rattle.words.specs.declared.class.Class.the-variants.{Space}
 use Rattle.words.specs.Runs.{isOf, front, beyond}
@@ -191,3 +191,35 @@ counted-wider xs at start next Bars h c = tt
 counted-wider xs at start next Wrong h c = tt
 counted-wider xs at start next (marks.Word w) h c = (c .0, c .1, omega (arith, c .2), c .3)
 counted-wider xs at start next End h c = tt
+
+-- where nothing stands first, nothing stands there at all
+bar-some : (bs : List ℕ) → length (barBegun bs .0) ≡ 1
+bar-some [] = refl
+bar-some (c ∷ cs) = elim (eqb c 124) as (λ v. length (cond {A = Taken} v (bars ∷ [], 1) (bar ∷ [], 0) .0) ≡ 1) [ true ↦ refl | false ↦ refl ]
+
+word-some : (o : Option Spelled) (n : ℕ) → length (wordBegun o n .0) ≡ 1
+word-some None n = refl
+word-some (Some s) n = refl
+
+struck-some : (b : ℕ) (bs : List ℕ) → length (struck b bs .0) ≡ 1
+struck-some b bs =
+    elim (eqb b 58) as (λ v. length (cond {A = Taken} v (colon ∷ [], 0) (cond {A = Taken} (eqb b 124) (barBegun bs) (wordBegun (word (b ∷ bs)) (length bs))) .0) ≡ 1) [
+      | true ↦ refl
+      | false ↦ elim (eqb b 124) as (λ v. length (cond {A = Taken} v (barBegun bs) (wordBegun (word (b ∷ bs)) (length bs)) .0) ≡ 1) [ true ↦ bar-some bs | false ↦ word-some (word (b ∷ bs)) (length bs) ]
+    ]
+
+pub no-token : (bs : List ℕ) → [] ≡ frontToken bs .0 → tokens bs ≡ []
+no-token [] e = refl
+no-token (b ∷ bs) e =
+    elim (cases-bool (eqb b 32)) [
+      | inl t ↦ ap (λ (v : Bool). cond {A = Taken} v ([], 0) (struck b bs) .0 ++ tokensPast (cond {A = Taken} v ([], 0) (struck b bs) .1) bs) t ∙
+          no-token bs (e ∙ ap (λ (v : Bool). cond {A = Taken} v (frontToken bs .0, suc (frontToken bs .1)) (struck b bs .0, suc (struck b bs .1)) .0) t)
+      | inr f ↦ absurd (let g : [] ≡ struck b bs .0 = e ∙ ap (λ (v : Bool). cond {A = Taken} v (frontToken bs .0, suc (frontToken bs .1)) (struck b bs .0, suc (struck b bs .1)) .0) f in
+          let z : 0 ≡ 1 = ap length g ∙ struck-some b bs in omega arith)
+    ]
+
+-- the tokens from an offset on, by the token that was read there
+pub tokens-read : (xs : List ℕ) (at next : ℕ) (ts : List Lexeme) → ts ≡ frontToken (drop at xs) .0 → next ≡ at + frontToken (drop at xs) .1 → tokens (drop at xs) ≡ ts ++ tokens (drop next xs)
+tokens-read xs at next ts e f =
+    tokens-front (drop at xs) ∙ ap (λ us. us ++ tokens (drop (frontToken (drop at xs) .1) (drop at xs))) (sym e) ∙
+    ap (λ bs. ts ++ tokens bs) (drop-drop (frontToken (drop at xs) .1) at xs ∙ ap (λ (k : ℕ). drop k xs) (sym f))

@@ -1,3 +1,4 @@
+pub mod Lines
 pub mod Paths
 pub mod Runs
 pub mod Shown

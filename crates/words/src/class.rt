@@ -19,6 +19,8 @@ pub enum Class {
     Digit,
     // A byte of 32 or more.
     Shown,
+    // Any byte but 0.
+    Nonzero,
 }
 
 fn belongs(b: u8, class: Class) -> bool
@@ -30,6 +32,7 @@ fn belongs(b: u8, class: Class) -> bool
         Class::InKey => b != b' ' && b != b'=',
         Class::Digit => b >= b'0' && b <= b'9',
         Class::Shown => b >= 32,
+        Class::Nonzero => b != 0,
     }
 }
 
@@ -52,9 +55,15 @@ pub fn all_of(bytes: &[u8], at: usize, class: Class) -> bool
     span_end(bytes, at, class) >= bytes.len()
 }
 
+pub fn same_bytes(a: &[u8], b: &[u8]) -> bool
+    ensures { λ r. ⌜ r ≡ sameBytes (now (a .entry)) (now (b .entry)) ⌝ }
+{
+    a == b
+}
+
 // Whether the bytes from `at` on begin with these.
 pub fn begins(bytes: &[u8], at: usize, with: &[u8]) -> bool
     ensures { λ r. ⌜ r ≡ sameBytes (take (length (now (with .entry))) (drop at (now (bytes .entry)))) (now (with .entry)) ⌝ }
 {
-    part(bytes, at, with.len()) == with
+    same_bytes(part(bytes, at, with.len()), with)
 }

@@ -9,6 +9,7 @@ mod tokens;
 pub use class::Class;
 pub use class::all_of;
 pub use class::begins;
+pub use class::same_bytes;
 pub use class::span_end;
 pub use path::Path;
 pub use paths::PathKey;

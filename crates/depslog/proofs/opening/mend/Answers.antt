@@ -3,9 +3,14 @@ use mathlib.Core.Logic.{inl, inr}
 use Prim.Native.Nat.{_<_}
 use native.Mathlib.Omega.{arith}
 use lib.ListN.{length}
-use Rattle.std.proofs.shelf.Tests.{eqb-false}
-use Rattle.depslog.proofs.Opens.{synced-off, mended-short, mended-not}
+use Rattle.std.proofs.shelf.Tests.{eqb-true, eqb-false}
+use Rattle.depslog.proofs.Opens.{synced-off, mended-empty, mended-short, mended-not}
 use Rattle.depslog.proofs.opening.mend.Needs as need
+
+pub returns-then-is-empty : need.returns-then-is-empty
+returns-then-is-empty g c =
+    let live = c .args .live .now in
+    mended-empty live (g .M·Medium .state (c .args .medium .now)) (c .put-in-place .result) (g .M·Medium .state (c .put-in-place .last .medium)) (eqb-true (length live) 0 (sym (c .if-is-empty .ensures tt))) (c .put-in-place .ensures)
 
 pub returns-then-good-live : need.returns-then-good-live
 returns-then-good-live g c =

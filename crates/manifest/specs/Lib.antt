@@ -1,0 +1,9 @@
+pub mod Bindings
+pub mod Books
+pub mod Building
+pub mod Groups
+pub mod Kept
+pub mod Kinds
+pub mod Outcomes
+pub mod Stored
+pub mod Views

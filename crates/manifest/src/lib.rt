@@ -1,0 +1,34 @@
+// Reading manifests.
+mod binding;
+mod build;
+mod built;
+mod fault;
+mod group;
+mod groups;
+mod keys;
+mod kind;
+mod limits;
+mod line;
+mod makers;
+mod manifest;
+mod read;
+mod reader;
+mod readers;
+mod rule;
+mod store;
+
+pub use fault::Fault;
+pub use fault::Owner;
+pub use keys::RuleKeys;
+pub use keys::Text;
+pub use keys::WordKeys;
+pub use kind::Kind;
+pub use line::kind_at;
+pub use makers::is_among;
+pub use makers::maker;
+pub use makers::rule_number;
+pub use manifest::Manifest;
+pub use read::read_manifest;
+pub use read::refusal;
+pub use rule::Rule;
+pub use rule::Statement;

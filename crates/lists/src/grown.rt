@@ -32,7 +32,8 @@ impl<'a, T: Copy> GrowList<'a, T> {
     pub fn room(&self) -> usize
         ensures { λ r. ⌜ r ≡ room (now (self .entry)) ⌝ }
     {
-        self.memory.len()
+        let memory = &*self.memory;
+        memory.len()
     }
 
     pub fn as_slice(&self) -> &[T]

@@ -17,7 +17,7 @@ pub struct Shelf<'a> {
 
 impl<'a> Shelf<'a> {
     // The first `len` bytes of the area, all durable.
-    pub fn new(area: &'a mut [u8], len: usize) -> Shelf<'a>
+    pub(super) fn new(area: &'a mut [u8], len: usize) -> Shelf<'a>
         ensures { λ r. ⌜ (now (r .area) ≡ now (area .entry)) × (r .len ≡ len) × (r .durable ≡ len) ⌝ }
     {
         Shelf {
@@ -28,14 +28,14 @@ impl<'a> Shelf<'a> {
     }
 
     // How long the area is.
-    pub fn size(&self) -> usize
+    pub(super) fn size(&self) -> usize
         ensures { λ r. ⌜ r ≡ sizeOf (now (self .entry)) ⌝ }
     {
         self.area.len()
     }
 
     // How many bytes there are.
-    pub fn count(&self, room: usize) -> usize
+    pub(super) fn count(&self, room: usize) -> usize
         ensures bytes { λ r. ⌜ r ≡ length (all (onShelf room (now (self .entry)))) ⌝ }
         ensures is { λ r. ⌜ r ≡ min (now (self .entry) .len) (min room (sizeOf (now (self .entry)))) ⌝ }
     {
@@ -43,7 +43,7 @@ impl<'a> Shelf<'a> {
     }
 
     // Puts the bytes behind those that are there, as pending ones.
-    pub fn push(&mut self, room: usize, bytes: &[u8])
+    pub(super) fn push(&mut self, room: usize, bytes: &[u8])
         requires { ⌜ length (all (onShelf room (now self))) + length (now bytes) ≤ min room (sizeOf (now self)) ⌝ }
         ensures bytes { λ _. ⌜ onShelf room (now (self .exit)) ≡ more (onShelf room (now (self .entry))) (now (bytes .entry)) ⌝ }
         ensures size { λ _. ⌜ sizeOf (now (self .exit)) ≡ sizeOf (now (self .entry)) ⌝ }
@@ -56,7 +56,7 @@ impl<'a> Shelf<'a> {
     }
 
     // Makes all bytes durable.
-    pub fn settle(&mut self, room: usize)
+    pub(super) fn settle(&mut self, room: usize)
         ensures bytes { λ _. ⌜ onShelf room (now (self .exit)) ≡ settled (all (onShelf room (now (self .entry)))) ⌝ }
         ensures size { λ _. ⌜ sizeOf (now (self .exit)) ≡ sizeOf (now (self .entry)) ⌝ }
     {
@@ -65,7 +65,7 @@ impl<'a> Shelf<'a> {
     }
 
     // Keeps the first `keep` of the pending bytes, or all where there are fewer, and makes what is left durable.
-    pub fn cut(&mut self, room: usize, keep: usize)
+    pub(super) fn cut(&mut self, room: usize, keep: usize)
         ensures bytes { λ _. ⌜ onShelf room (now (self .exit)) ≡ cut keep (onShelf room (now (self .entry))) ⌝ }
         ensures size { λ _. ⌜ sizeOf (now (self .exit)) ≡ sizeOf (now (self .entry)) ⌝ }
     {
@@ -75,7 +75,7 @@ impl<'a> Shelf<'a> {
         self.durable = self.len;
     }
 
-    pub fn clear(&mut self)
+    pub(super) fn clear(&mut self)
         ensures { λ _. ⌜ (now (now (self .exit) .area) ≡ now (now (self .entry) .area)) × (now (self .exit) .len ≡ 0) × (now (self .exit) .durable ≡ 0) ⌝ }
     {
         self.len = 0;
@@ -83,7 +83,7 @@ impl<'a> Shelf<'a> {
     }
 
     // Copies the bytes from `offset` on to the front of `buf`, and answers how many.
-    pub fn read(&self, room: usize, offset: usize, buf: &mut [u8]) -> usize
+    pub(super) fn read(&self, room: usize, offset: usize, buf: &mut [u8]) -> usize
         ensures count { λ r. ⌜ r ≡ min (length (now (buf .entry))) (length (all (onShelf room (now (self .entry)))) - offset) ⌝ }
         ensures bytes { λ r. ⌜ now (buf .exit) ≡ take r (drop offset (all (onShelf room (now (self .entry))))) ++ drop r (now (buf .entry)) ⌝ }
     {

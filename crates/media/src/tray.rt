@@ -16,7 +16,7 @@ pub struct Tray {
 }
 
 impl Tray {
-    pub fn new() -> Tray
+    pub(super) fn new() -> Tray
         ensures { λ r. ⌜ onTray r ≡ none ⌝ }
     {
         Tray {
@@ -27,7 +27,7 @@ impl Tray {
     }
 
     // How many bytes there are.
-    pub fn count(&self) -> usize
+    pub(super) fn count(&self) -> usize
         ensures bytes { λ r. ⌜ r ≡ length (all (onTray (now (self .entry)))) ⌝ }
         ensures is { λ r. ⌜ r ≡ min (now (self .entry) .len) 4096 ⌝ }
         ensures long { λ r. ⌜ length (now (self .entry) .bytes) ≡ 4096 ⌝ }
@@ -37,7 +37,7 @@ impl Tray {
     }
 
     // Puts the bytes behind those that are there, as pending ones.
-    pub fn push(&mut self, bytes: &[u8])
+    pub(super) fn push(&mut self, bytes: &[u8])
         requires { ⌜ length (all (onTray (now self))) + length (now bytes) ≤ 4096 ⌝ }
         ensures { λ _. ⌜ onTray (now (self .exit)) ≡ more (onTray (now (self .entry))) (now (bytes .entry)) ⌝ }
     {
@@ -49,7 +49,7 @@ impl Tray {
     }
 
     // Makes all bytes durable.
-    pub fn settle(&mut self)
+    pub(super) fn settle(&mut self)
         ensures { λ _. ⌜ onTray (now (self .exit)) ≡ settled (all (onTray (now (self .entry)))) ⌝ }
     {
         self.len = self.count();
@@ -57,7 +57,7 @@ impl Tray {
     }
 
     // Keeps the bytes in whole pages, or the durable ones where those are more, and makes what is left durable.
-    pub fn cut(&mut self)
+    pub(super) fn cut(&mut self)
         ensures { λ _. ⌜ onTray (now (self .exit)) ≡ whole (onTray (now (self .entry))) ⌝ }
     {
         let len = self.count();
@@ -65,7 +65,7 @@ impl Tray {
         self.durable = self.len;
     }
 
-    pub fn clear(&mut self)
+    pub(super) fn clear(&mut self)
         ensures { λ _. ⌜ onTray (now (self .exit)) ≡ none ⌝ }
     {
         self.len = 0;
@@ -73,7 +73,7 @@ impl Tray {
     }
 
     // Copies the bytes from `offset` on to the front of `buf`, and answers how many.
-    pub fn read(&self, offset: usize, buf: &mut [u8]) -> usize
+    pub(super) fn read(&self, offset: usize, buf: &mut [u8]) -> usize
         ensures count { λ r. ⌜ r ≡ min (length (now (buf .entry))) (length (all (onTray (now (self .entry)))) - offset) ⌝ }
         ensures bytes { λ r. ⌜ now (buf .exit) ≡ take r (drop offset (all (onTray (now (self .entry))))) ++ drop r (now (buf .entry)) ⌝ }
     {

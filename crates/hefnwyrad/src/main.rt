@@ -1,4 +1,6 @@
 // The program: reads its arguments, and does what they ask.
+#![tactic(auto)]
+
 mod dump;
 mod files;
 mod find;
@@ -11,6 +13,7 @@ use dump::dump;
 use find::find;
 use note::note;
 use recompact::recompact;
+use std::process::ExitCode;
 use std::{env, io};
 
 const USAGE: &str =
@@ -19,10 +22,7 @@ const USAGE: &str =
        hefnwyrad note LOG OUTPUT MTIME INPUT...    note that an output was made at a time from inputs
        hefnwyrad recompact LOG                     keep each entry once and nothing else";
 
-// What was asked could not be done; a line on standard error has said why.
-#[derive(Debug, Drop)]
-struct Failed;
-
+// False where what was asked could not be done; a line on standard error has said why.
 fn run(rt: &HostRuntime) -> io::Result<bool> {
     let mut words = Vec::new(rt.alloc());
     for word in env::args(rt)?.skip(1) {
@@ -50,13 +50,13 @@ fn run(rt: &HostRuntime) -> io::Result<bool> {
     }
 }
 
-fn main(rt: HostRuntime) -> Result<(), Failed> {
+fn main(rt: HostRuntime) -> ExitCode {
     match run(&rt) {
-        Ok(true) => Ok(()),
-        Ok(false) => Err(Failed),
+        Ok(true) => ExitCode::SUCCESS,
+        Ok(false) => ExitCode::FAILURE,
         Err(e) => {
             let _ = eprintln!(rt; "hefnwyrad: {e}");
-            Err(Failed)
+            ExitCode::FAILURE
         }
     }
 }

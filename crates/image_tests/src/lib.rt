@@ -1,4 +1,6 @@
 // Tests of the image on tables of bytes: each cause, each limit at and past its edge, and the shortest images.
+#![tactic(auto)]
+
 #[cfg(test)]
 mod tests {
     use examples::first_log;

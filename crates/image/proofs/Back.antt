@@ -1,12 +1,12 @@
 -- A record reads back. Assumes nothing.
-use Rattle.std.proofs.Common.{◌≡◌, ℕ, zero, suc, ◌+◌, ◌-◌, ◌*◌, ◌/◌, ◌%◌, ◌^◌, ◌<◌, ◌≤◌, Bool, true, false, cond, not, ◌&&◌, ◌||◌, eqb, ltb, leb, ◌⊎◌, List, [], ◌∷◌, ◌++◌, length, get_or, take, drop, replicate, sym, refl, ap, ◌∙◌, subst, inl, inr, arith}
-use Rattle.std.proofs.lemmas.List.{length-take-le, length-append, take_at, drop_at, length-replicate, append_assoc}
-use Rattle.std.proofs.lemmas.Bool.{lt-ltb, and_parts, leb-true, le-ltb, le-leb, lt-leb, eq-eqb, ltb-true, not_from_true, or_from, cond-true, cond-false}
+use Rattle.std.proofs.Common.{◌≡◌, ℕ, zero, suc, ◌+◌, ◌-◌, ◌*◌, ◌/◌, ◌%◌, ◌^◌, ◌<◌, ◌≤◌, Bool, true, false, cond, not, ◌||◌, eqb, ltb, List, [], ◌∷◌, ◌++◌, length, take, drop, sym, refl, ap, ◌∙◌, subst, inl, inr, arith}
+use Rattle.std.proofs.lemmas.List.{length-take-le, length-append, take_at, drop_at}
+use Rattle.std.proofs.lemmas.Bool.{lt-ltb, and_parts, le-ltb, le-leb, lt-leb, eq-eqb, ltb-true, not_from_true, or_from, cond-true, cond-false}
 use Rattle.image.specs.declared.cause.Cause.TheVariants.{NoWord, TooLong, BadSize, BadChecksum, BadName, UnknownId}
 use Rattle.terms.specs.Lists.{every, is_in}
-use Rattle.image.specs.Names.{holds_zero, is_name}
+use Rattle.image.specs.Names.{holds_zero}
 use Rattle.image.specs.Bytes.{Record, path, deps, word, long, words, padding, padded, checksum, record_bytes}
-use Rattle.image.specs.Reading.{Reading, good, bad, end, word_at, long_at, words_of, unpadded, read_name, read_path, read_deps, is_known, is_deps, size_of, odd_size, read_body, read_front, next_offset}
+use Rattle.image.specs.Reading.{Reading, good, bad, word_at, long_at, words_of, unpadded, read_name, read_path, read_deps, is_known, is_deps, size_of, odd_size, read_body, read_front, next_offset}
 use Rattle.image.specs.Laws.{Writable, Torn}
 use Rattle.image.proofs.Loops.{word_at-drop}
 use Rattle.image.proofs.Naming.{name-parts}

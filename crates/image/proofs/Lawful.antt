@@ -1,8 +1,7 @@
 -- The laws of reading and filling, of the calls' answers. Assumes nothing.
-use Rattle.std.proofs.Common.{◌≡◌, ℕ, ◌+◌, List, ◌++◌, length, take, drop, None, Ok, Result, sym, refl, ap, ◌∙◌, subst}
+use Rattle.std.proofs.Common.{◌≡◌, ℕ, List, length, drop, None, Ok, Result, sym, ap, ◌∙◌, subst}
 use Rattle.terms.specs.declared.Refusal.{Refusal}
 use Rattle.image.specs.declared.filled.Filled.{Filled}
-use Rattle.image.specs.Bytes.{Record, record_bytes, records_bytes, header}
 use Rattle.image.specs.Reading.{Reading, good, read_front, next_offset, read_at}
 use Rattle.image.specs.Tables.{Table}
 use Rattle.image.specs.Scans.{filled}

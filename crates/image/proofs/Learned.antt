@@ -1,10 +1,10 @@
 -- What a table keeps as it learns. Assumes nothing.
-use Rattle.std.proofs.Common.{◌≡◌, ℕ, ◌+◌, ◌^◌, ◌<◌, ◌≤◌, Bool, true, false, cond, not, ◌&&◌, ltb, leb, List, [], ◌∷◌, map, length, take, Some, None, vec_items, vec_len, Option, sym, refl, ap, ◌∙◌, arith}
+use Rattle.std.proofs.Common.{◌≡◌, ℕ, ◌+◌, ◌^◌, ◌<◌, ◌≤◌, Bool, true, false, cond, not, ◌&&◌, ltb, leb, List, [], ◌∷◌, map, length, Some, None, vec_items, vec_len, Option, sym, refl, ap, ◌∙◌, arith}
 use Rattle.std.specs.Option.{option_map}
 use Rattle.std.specs.Str.{bytes_eq}
 use Rattle.std.proofs.lemmas.List.{length-map, length-take-le, map_push}
 use Rattle.std.proofs.lemmas.Bool.{and_from, and_left, and_right, and_parts, or_parts, not-true, not_from_true, not_from_false, lt-ltb, le-ltb, le-leb, ltb-true, cond-true, cond-false}
-use Rattle.terms.specs.Lists.{every, some, is_in, ◌▷◌}
+use Rattle.terms.specs.Lists.{every, is_in, ◌▷◌}
 use Rattle.image.specs.declared.entry.DepsEntry.{DepsEntry}
 use Rattle.image.specs.declared.name.Name.{Name}
 use Rattle.image.specs.declared.table.DepsTable.{DepsTable}
@@ -15,7 +15,7 @@ use Rattle.image.specs.Kept.{distinct, fits_entry, Kept}
 use Rattle.image.specs.View.{text, entry_of}
 use Rattle.image.specs.Learning.{view, takes_path, path_learned}
 use Rattle.image.proofs.Naming.{all_named}
-use Rattle.image.proofs.Tests.{every_push, every_set, every_more, some_push, other_way}
+use Rattle.image.proofs.Tests.{every_more, some_push, other_way}
 
 pub distinct_push : (ns : List (List ℕ)) (n : List ℕ) → distinct ns ≡ true → is_in n ns ≡ false → distinct (ns ▷ n) ≡ true
 distinct_push [] n d u = refl

@@ -1,8 +1,8 @@
 -- The steps of the loops over bytes. Assumes nothing.
-use Rattle.std.proofs.Common.{◌≡◌, ℕ, zero, suc, ◌+◌, ◌-◌, ◌*◌, ◌/◌, ◌<◌, ◌≤◌, Bool, true, false, cond, ◌&&◌, ◌||◌, eqb, ltb, List, [], ◌∷◌, ◌++◌, length, get_or, take, drop, sym, refl, ap, ◌∙◌, add-zero, arith, get_or-drop}
-use Rattle.std.proofs.lemmas.List.{append_assoc, at_drop_more, at_drop_all, drop-drop, take-take, length-take-le, get_or-take, get_or_default, get_or_past, nil_from_length}
-use Rattle.std.proofs.lemmas.Bool.{eq-eqb, ne_eqb, le-ltb, lt-ltb, or_left, and_left, cond-true, cond-false}
-use Rattle.terms.specs.Lists.{every, some, ◌▷◌}
+use Rattle.std.proofs.Common.{◌≡◌, ℕ, zero, suc, ◌+◌, ◌-◌, ◌*◌, ◌<◌, ◌≤◌, Bool, true, false, ◌&&◌, ◌||◌, eqb, List, [], ◌∷◌, ◌++◌, length, get_or, take, drop, sym, refl, ap, ◌∙◌, add-zero, arith, get_or-drop}
+use Rattle.std.proofs.lemmas.List.{append_assoc, at_drop_more, drop-drop, take-take, length-take-le, get_or-take, get_or_default}
+use Rattle.std.proofs.lemmas.Bool.{eq-eqb, ne_eqb, or_left, cond-true, cond-false}
+use Rattle.terms.specs.Lists.{every, ◌▷◌}
 use Rattle.image.specs.Names.{holds_zero}
 use Rattle.image.specs.Reading.{word_at, words_of, trimmed}
 

@@ -1,11 +1,11 @@
 -- An image of written records fills a table with what they tell. Assumes nothing.
-use Rattle.std.proofs.Common.{◌≡◌, ℕ, zero, suc, ◌+◌, ◌-◌, ◌*◌, ◌^◌, ◌<◌, ◌≤◌, Bool, true, false, cond, ◌||◌, ltb, leb, List, [], ◌∷◌, ◌++◌, length, take, drop, None, Ok, Result, sym, refl, ap, ◌∙◌, subst, arith}
-use Rattle.std.proofs.lemmas.List.{append-nil, append_assoc, length-append, drop_at, drop-drop, drop_all}
+use Rattle.std.proofs.Common.{◌≡◌, ℕ, suc, ◌+◌, ◌-◌, ◌≤◌, false, ltb, leb, List, [], ◌∷◌, ◌++◌, length, drop, None, Ok, Result, sym, refl, ap, ◌∙◌, arith}
+use Rattle.std.proofs.lemmas.List.{length-append, drop_at, drop-drop}
 use Rattle.std.proofs.lemmas.Bool.{or_from, le-ltb, lt-leb}
 use Rattle.terms.specs.declared.Refusal.{Refusal}
 use Rattle.image.specs.declared.filled.Filled.{Filled}
 use Rattle.image.specs.Bytes.{Record, path, deps, header, record_bytes, records_bytes, next_id}
-use Rattle.image.specs.Reading.{good, end, read_front, next_offset}
+use Rattle.image.specs.Reading.{good, read_front, next_offset}
 use Rattle.image.specs.Tables.{Table, bare, learn, learn_all}
 use Rattle.image.specs.Scans.{scan, is_over, fill_by, filled}
 use Rattle.image.specs.Laws.{Writable, AllWritable}

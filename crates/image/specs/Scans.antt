@@ -8,7 +8,7 @@ use Rattle.terms.specs.Lists.{empty}
 use Rattle.image.specs.declared.cause.Cause.{Cause}
 use Rattle.image.specs.declared.filled.Filled.{Filled}
 use Rattle.image.specs.Bytes.{Record, path, deps, header, next_id}
-use Rattle.image.specs.Reading.{Reading, good, bad, end, read_front, next_offset}
+use Rattle.image.specs.Reading.{good, bad, end, read_front, next_offset}
 use Rattle.image.specs.Tables.{Table, bare, learn}
 
 -- The good records up to the first bad one or the end, with their offsets; what they tell; where they end; and the bad one, if there is one.

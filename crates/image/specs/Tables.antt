@@ -1,5 +1,5 @@
 -- What good records tell: the known names and the entries. Assumes nothing.
-use Rattle.std.specs.Prelude.{ℕ, List, [], ◌∷◌, map, Some, None, Option, slice_set}
+use Rattle.std.specs.Prelude.{ℕ, List, [], ◌∷◌, Some, None, Option, slice_set}
 use Rattle.terms.specs.Lists.{◌▷◌}
 use Rattle.image.specs.Bytes.{Record, path, deps}
 

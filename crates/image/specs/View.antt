@@ -1,5 +1,5 @@
 -- What the values of the code stand for. Assumes nothing.
-use Rattle.std.specs.Prelude.{ℕ, ◌/◌, List, map, length, take, Some, None, Option}
+use Rattle.std.specs.Prelude.{ℕ, List, map, take, Option}
 use Rattle.std.specs.Option.{option_map}
 use Rattle.image.specs.declared.name.Name.{Name}
 use Rattle.image.specs.declared.entry.DepsEntry.{DepsEntry}

@@ -1,4 +1,6 @@
 // The image of a deps log, Ninja's version 4: reading and writing its records, and the table that good records give.
+#![tactic(auto)]
+
 mod cause;
 mod entries;
 mod entry;

@@ -1,4 +1,6 @@
 // What a note and a recompaction write, and their laws.
+#![tactic(auto)]
+
 ghost use Rattle.notes.specs.Laws.{Accepted, NoteAdds, NoteReadsBack, NotesReadBack, NotingKeeps, CutAnywhere, MendingKeeps, LatestNoted, AgreeGoesOn, Compaction};
 
 mod given;

@@ -1,4 +1,6 @@
 // What every layer shares: a value with its offset, a place in some bytes, a found entry, and the refusals.
+#![tactic(auto)]
+
 ghost use Rattle.std.specs.Prelude.{◌≡◌};
 ghost use Rattle.terms.specs.Refusals.{number_of, place_of};
 

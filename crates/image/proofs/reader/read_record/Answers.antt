@@ -1,6 +1,6 @@
-use Rattle.std.proofs.Common.{◌≡◌, ℕ, ◌+◌, ◌-◌, ◌<◌, ◌≤◌, true, false, length, take, drop, sym, refl, ap, ◌∙◌, inl, inr, arith}
+use Rattle.std.proofs.Common.{◌≡◌, ℕ, ◌+◌, ◌-◌, ◌<◌, true, false, length, take, drop, sym, refl, ap, ◌∙◌, inl, inr, arith}
 use Rattle.std.proofs.lemmas.List.{drop_all, take_rest, length-drop}
-use Rattle.image.specs.Reading.{Reading, good, bad, end, word_at, size_of, read_front}
+use Rattle.image.specs.Reading.{bad, end, word_at, size_of, read_front}
 use Rattle.image.specs.declared.cause.Cause.TheVariants.{NoWord}
 use Rattle.image.specs.declared.records.Read.{Read}
 use Rattle.image.specs.Learning.{view}
@@ -34,18 +34,18 @@ returns-in-Path c =
     let image = c.args.image.now in
     let at = c.args.at in
     let front = take (length image - at) (drop at image) in
-    let x = shown c.read-body-read.result in
+    let x = shown c.read_body-read.result in
     let f : front ≡ drop at image = take_rest image at in
     let e : x ≡ read_front known (drop at image) =
-    read_front_lem known image at c.word-at-head.result front (take (length front - 4) (drop 4 front)) x f c.word-at-head.ensures (take_rest front 4) c.if-front-lt4.false c.read-body-read.ensures.value in
+    read_front_lem known image at c.word_at-head.result front (take (length front - 4) (drop 4 front)) x f c.word_at-head.ensures (take_rest front 4) c.if-front-lt4.false c.read_body-read.ensures.value in
     let g : is_good x ≡ true = elim c.in-Path.is [ inl p ↦ ap (λ (r : Read). is_good (shown r)) p.1 | inr p ↦ ap (λ (r : Read). is_good (shown r)) p.1 ] in
-    let h : c.word-at-head.result ≡ word_at (drop at image) 0 = c.word-at-head.ensures ∙ ap (λ xs. word_at xs 0) f in
+    let h : c.word_at-head.result ≡ word_at (drop at image) 0 = c.word_at-head.ensures ∙ ap (λ xs. word_at xs 0) f in
     let b = front-good known (drop at image) (ap is_good (sym e) ∙ g) in
-    let n : ℕ = at + 4 + size_of c.word-at-head.result in
+    let n : ℕ = at + 4 + size_of c.word_at-head.result in
     let v = answers known image at x n e (ap (λ (w : ℕ). at + 4 + size_of w) h ∙ sym (next-good image at x g)) in
     record {
       value = v;
-      offset = c.read-body-read.ensures.offset;
+      offset = c.read_body-read.ensures.offset;
       back = reads_it_back known image at x n v;
       torn = reads_it_torn known image at x n v;
       leads = leads_good x at n (length image) g (omega (arith, b.2, ap size_of h)) (omega (arith, b.1, ap size_of h, length-drop at image));
@@ -57,14 +57,14 @@ returns-in-Bad c =
     let image = c.args.image.now in
     let at = c.args.at in
     let front = take (length image - at) (drop at image) in
-    let x = shown c.read-body-read.result in
+    let x = shown c.read_body-read.result in
     let e : x ≡ read_front known (drop at image) =
-    read_front_lem known image at c.word-at-head.result front (take (length front - 4) (drop 4 front)) x (take_rest image at) c.word-at-head.ensures (take_rest front 4) c.if-front-lt4.false c.read-body-read.ensures.value in
+    read_front_lem known image at c.word_at-head.result front (take (length front - 4) (drop 4 front)) x (take_rest image at) c.word_at-head.ensures (take_rest front 4) c.if-front-lt4.false c.read_body-read.ensures.value in
     let g : is_good x ≡ false = elim c.in-Bad.is [ inl p ↦ ap (λ (r : Read). is_good (shown r)) p.1 | inr p ↦ ap (λ (r : Read). is_good (shown r)) (p) ] in
     let v = answers known image at x at e (sym (next-none image at x g)) in
     record {
       value = v;
-      offset = c.read-body-read.ensures.offset;
+      offset = c.read_body-read.ensures.offset;
       leads = leads_none x at (length image) g;
       back = reads_it_back known image at x at v;
       torn = reads_it_torn known image at x at v;

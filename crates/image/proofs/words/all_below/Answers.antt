@@ -1,12 +1,12 @@
-use Rattle.std.proofs.Common.{◌≡◌, ℕ, ◌+◌, ◌-◌, ◌*◌, ◌/◌, ◌≤◌, Bool, true, false, ◌&&◌, ltb, length, drop, sym, refl, ap, ◌∙◌, arith}
+use Rattle.std.proofs.Common.{◌≡◌, ℕ, ◌+◌, ◌-◌, ◌*◌, ◌/◌, Bool, true, false, ◌&&◌, ltb, length, drop, sym, ap, ◌∙◌, arith}
 use Rattle.std.proofs.lemmas.Bool.{lt-ltb, le-ltb, and_left}
 use Rattle.terms.specs.Lists.{every}
 use Rattle.image.specs.Reading.{word_at, words_of}
 use Rattle.image.proofs.Loops.{every-words}
 use Rattle.image.proofs.words.all_below.Goals as goal
 
-pub returns-then-word-at-count : goal.returns-then-word-at-count
-returns-then-word-at-count c =
+pub returns-then-word_at-count : goal.returns-then-word_at-count
+returns-then-word_at-count c =
     let ids = c.args.ids.now in
     let k = c.loop-k.k in
     let n : ℕ = length ids / 4 in

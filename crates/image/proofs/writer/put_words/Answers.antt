@@ -1,7 +1,7 @@
-use Rattle.std.proofs.Common.{◌≡◌, ℕ, ◌+◌, ◌*◌, ◌<◌, ◌≤◌, List, [], ◌∷◌, ◌++◌, length, get_or, take, drop, sym, refl, ap, ◌∙◌, arith}
+use Rattle.std.proofs.Common.{◌≡◌, ℕ, ◌+◌, List, [], ◌++◌, length, get_or, take, drop, sym, ap, ◌∙◌, arith}
 use Rattle.std.proofs.lemmas.List.{append-nil, append_assoc, take-append-drop, length-append, length-take-le, take_more, take_all}
 use Rattle.image.specs.Bytes.{word, words}
-use Rattle.image.proofs.Writes.{Fronted, fronted-more, words_push, length-words}
+use Rattle.image.proofs.Writes.{fronted-more, words_push, length-words}
 use Rattle.image.proofs.writer.put_words.Goals as goal
 
 pub loop-id-init : goal.loop-id-init
@@ -23,10 +23,10 @@ loop-id-preserved c =
     let t : length (take i ids) ≡ i = length-take-le i ids (omega arith) in
     let n : c.loop-id.end ≡ length front = omega (arith, l, t, length-append (take at old) (words (take i ids)), length-words (take i ids), c.loop-id.invariant.0) in
     let more : words (take i ids) ++ word (get_or ids i 0) ≡ words (take (i + 1) ids) = sym (ap words (take_more ids i 0 (omega arith)) ∙ words_push (take i ids) (get_or ids i 0)) in
-    let e : front ++ c.to-le-bytes.result ≡ take at old ++ words (take (i + 1) ids) =
-    ap (λ (xs : List ℕ). front ++ xs) c.to-le-bytes.ensures ∙ append_assoc (take at old) (words (take i ids)) (word (get_or ids i 0)) ∙ ap (λ (xs : List ℕ). take at old ++ xs) more in (
-      omega (arith, c.put-end.ensures.place, ap length c.to-le-bytes.ensures, c.loop-id.invariant.0),
-      fronted-more front old c.loop-id.buf c.put-end.new.buf c.to-le-bytes.result c.loop-id.end c.loop-id.invariant.1 n c.put-end.ensures.after ∙
+    let e : front ++ c.to_le_bytes.result ≡ take at old ++ words (take (i + 1) ids) =
+    ap (λ (xs : List ℕ). front ++ xs) c.to_le_bytes.ensures ∙ append_assoc (take at old) (words (take i ids)) (word (get_or ids i 0)) ∙ ap (λ (xs : List ℕ). take at old ++ xs) more in (
+      omega (arith, c.put-end.ensures.place, ap length c.to_le_bytes.ensures, c.loop-id.invariant.0),
+      fronted-more front old c.loop-id.buf c.put-end.new.buf c.to_le_bytes.result c.loop-id.end c.loop-id.invariant.1 n c.put-end.ensures.after ∙
           ap (λ (f : List ℕ). f ++ drop (length f) old) e,
     )
 

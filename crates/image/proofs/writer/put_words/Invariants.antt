@@ -1,4 +1,4 @@
-use Rattle.std.proofs.Common.{◌≡◌, ◌+◌, ◌*◌, ◌++◌, length, take}
+use Rattle.std.proofs.Common.{◌≡◌, ◌+◌, ◌*◌, ◌++◌, take}
 use Rattle.image.specs.Bytes.{words}
 use Rattle.image.proofs.Writes.{Fronted}
 use Rattle.image.proofs.writer.put_words.Given as goal

@@ -1,4 +1,5 @@
-use Rattle.std.proofs.Common.{◌≡◌, ℕ, ◌<◌, Bool, List, [], map, length, get_or, Decides, sym, ap, ◌∙◌, arith}
+use Rattle.std.proofs.Common.{◌≡◌, ℕ, ◌<◌, Bool, List, [], map, length, get_or, Decides, eqb, refl, sym, ap, ◌∙◌, arith}
+use lib.Pointwise.{pointwise}
 use Rattle.std.specs.Str.{bytes_eq}
 use Rattle.std.proofs.lemmas.Slice.Eq.{slice_eq-Decides}
 use Rattle.std.proofs.lemmas.List.{length-map, get_or-map}
@@ -37,11 +38,11 @@ returns-then-ne c =
     let ids = c.args.ids.now in
     let i = c.loop-i.i in
     let h : i < length ids = omega (arith, c.loop-i-test.true, c.if-places-ids.false) in
-    let z = c.ne.ensures in
-    let k = told t bytes places ids i (record { start = 0; length = 0 }) c.part.result.now c.name-of.result.now z.0 c.loop-i-test.true h c.part.ensures c.name-of.ensures
-    (slice_eq-Decides Decides-eqb c.part.result.now c.name-of.result.now z.0 z.1) in
+    let q = pointwise eqb c.part.result.now c.name_of.result.now in
+    let k = told t bytes places ids i (record { start = 0; length = 0 }) c.part.result.now c.name_of.result.now q c.loop-i-test.true h c.part.ensures c.name_of.ensures
+    (slice_eq-Decides Decides-eqb c.part.result.now c.name_of.result.now q refl) in
     sym (next_differs (map (cut bytes) places) (map (name_of t) ids) i (omega (arith, c.loop-i-test.true, length-map places (cut bytes))) (omega (arith, h, length-map ids (name_of t)))
-    (k ∙ not-true z.0 (sym z.2 ∙ c.if-ne.true))) ∙ c.loop-i.invariant
+    (k ∙ not-true q (sym c.ne.ensures ∙ c.if-ne.true))) ∙ c.loop-i.invariant
 
 pub loop-i-preserved : goal.loop-i-preserved
 loop-i-preserved c =
@@ -51,11 +52,11 @@ loop-i-preserved c =
     let ids = c.args.ids.now in
     let i = c.loop-i.i in
     let h : i < length ids = omega (arith, c.loop-i-test.true, c.if-places-ids.false) in
-    let z = c.ne.ensures in
-    let k = told t bytes places ids i (record { start = 0; length = 0 }) c.part.result.now c.name-of.result.now z.0 c.loop-i-test.true h c.part.ensures c.name-of.ensures
-    (slice_eq-Decides Decides-eqb c.part.result.now c.name-of.result.now z.0 z.1) in
+    let q = pointwise eqb c.part.result.now c.name_of.result.now in
+    let k = told t bytes places ids i (record { start = 0; length = 0 }) c.part.result.now c.name_of.result.now q c.loop-i-test.true h c.part.ensures c.name_of.ensures
+    (slice_eq-Decides Decides-eqb c.part.result.now c.name_of.result.now q refl) in
     next-same (map (cut bytes) places) (map (name_of t) ids) i (omega (arith, c.loop-i-test.true, length-map places (cut bytes))) (omega (arith, h, length-map ids (name_of t)))
-    (k ∙ not-false z.0 (sym z.2 ∙ c.if-ne.false)) ∙ c.loop-i.invariant
+    (k ∙ not-false q (sym c.ne.ensures ∙ c.if-ne.false)) ∙ c.loop-i.invariant
 
 pub returns : goal.returns
 returns c =

@@ -1,4 +1,4 @@
-use Rattle.std.proofs.Common.{◌≡◌, ℕ, ◌+◌, ◌-◌, ◌*◌, ◌/◌, ◌<◌, ◌≤◌, true, false, cond, ltb, leb, List, [], ◌++◌, length, drop, Some, None, Option, sym, refl, ap, ◌∙◌, subst, arith}
+use Rattle.std.proofs.Common.{◌≡◌, ℕ, ◌+◌, ◌-◌, ◌*◌, ◌/◌, ◌<◌, ◌≤◌, true, leb, List, ◌++◌, length, drop, Some, None, Option, sym, ap, ◌∙◌, arith}
 use Rattle.std.proofs.lemmas.List.{append-nil, length_push}
 use Rattle.std.proofs.lemmas.Bool.{le-leb, lt-leb, lt-ltb, cond-true, cond-false}
 use Rattle.terms.specs.Lists.{◌▷◌}
@@ -39,9 +39,9 @@ loop-k-preserved c =
     let n : ℕ = length ids / 4 in
     let h : k < n = c.loop-k-test.true in
     let room : c.push.result ≡ true = c.push.ensures.room ∙ lt-ltb (length was.inputs) 64 (omega (arith, c.loop-k.invariant.1, c.if-count-gt64.false)) in
-    let more : Entry = record { mtime = was.mtime; inputs = was.inputs ▷ c.word-at.result } in
+    let more : Entry = record { mtime = was.mtime; inputs = was.inputs ▷ c.word_at.result } in
     let e : entry_of c.push.new.self ≡ more = c.push.ensures.after ∙ cond-true c.push.result more was room in
-    let i : inputs_of (entry_of c.push.new.self) ≡ was.inputs ▷ word_at ids (4 * k) = ap inputs_of e ∙ ap (λ (w : ℕ). was.inputs ▷ w) c.word-at.ensures in (
+    let i : inputs_of (entry_of c.push.new.self) ≡ was.inputs ▷ word_at ids (4 * k) = ap inputs_of e ∙ ap (λ (w : ℕ). was.inputs ▷ w) c.word_at.ensures in (
       ap mtime_of e ∙ c.loop-k.invariant.0,
       omega (arith, ap length i, length_push was.inputs (word_at ids (4 * k)), c.loop-k.invariant.1),
       ap (λ (xs : List ℕ). xs ++ words_of (n - (k + 1)) (drop (4 * (k + 1)) ids)) i ∙ words_gathered n k ids was.inputs h c.loop-k.invariant.2,

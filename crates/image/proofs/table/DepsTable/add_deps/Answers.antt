@@ -1,4 +1,4 @@
-use Rattle.std.proofs.Common.{◌≡◌, ℕ, true, ltb, List, map, set, Some, vec_items, vec_len, Option, sym, refl, ap, ◌∙◌, arith}
+use Rattle.std.proofs.Common.{◌≡◌, ℕ, true, ltb, List, map, set, Some, vec_items, vec_len, Option, sym, ap, ◌∙◌, arith}
 use Rattle.std.specs.Option.{option_map}
 use Rattle.std.proofs.lemmas.List.{map-set}
 use Rattle.terms.specs.Lists.{every}
@@ -10,11 +10,11 @@ use Rattle.image.proofs.Tests.{every_set}
 use Rattle.image.proofs.Learned.{names-long, entry-fits}
 use Rattle.image.proofs.table.DepsTable.add_deps.Goals as goal
 
-pub index-mut-requires : goal.index-mut-requires
-index-mut-requires c = omega (arith, names-long c.args.self.now, c.args.self.now.paired, c.requires.output)
+pub index_mut-requires : goal.index_mut-requires
+index_mut-requires c = omega (arith, names-long c.args.self.now, c.args.self.now.paired, c.requires.output)
 
-pub invariant-of-self : goal.invariant-of-self
-invariant-of-self c =
+pub invariant_of-self : goal.invariant_of-self
+invariant_of-self c =
     let t = c.args.self.now in
     let e = c.args.entry in
     let n : ℕ = vec_len t.names in
@@ -22,7 +22,7 @@ invariant-of-self c =
     let fit : every (fits_entry n) (map (option_map entry_of) (set (vec_items t.entries) c.args.output (Some e))) ≡ true =
     ap (every (fits_entry n)) (map-set (option_map entry_of) (vec_items t.entries) c.args.output (Some e)) ∙
     every_set (fits_entry n) (view t).entries c.args.output (Some (entry_of e)) t.fitting (entry-fits n e known) in
-    (t.roomy, (t.wide, (t.few, (t.paired, (t.apart, (fit, tt))))))
+    record { roomy = t.roomy; wide = t.wide; few = t.few; paired = t.paired; apart = t.apart; fitting = fit }
 
 pub returns : goal.returns
 returns c =

@@ -1,4 +1,4 @@
-use Rattle.std.proofs.Common.{◌≡◌, ℕ, ◌<◌, ◌≤◌, Bool, true, false, length, get_or, sym, refl, ap, ◌∙◌, arith}
+use Rattle.std.proofs.Common.{◌<◌, ◌≤◌, length, sym, ◌∙◌, arith}
 use Rattle.std.specs.Str.{bytes_eq}
 use Rattle.std.proofs.lemmas.Slice.Eq.{slice_eq-Decides}
 use Rattle.std.proofs.lemmas.List.{at_drop_all}
@@ -15,8 +15,8 @@ returns-then-eq c =
     let ns = (view t).names in
     let h : c.loop-id.id < length c.deref-known-items.result.now = c.loop-id-test.true in
     let l : c.loop-id.id < length ns = omega (arith, names-long t, c.deref-known-items.ensures.len) in
-    let q = asked_at t.names.items c.deref-known-items.result.now c.loop-id.id c.known-item.result c.as-bytes.result.now c.args.name.now c.eq.result
-    c.deref-known-items.ensures.value h c.known-item.is c.as-bytes.ensures.bytes (slice_eq-Decides Decides-eqb _ _ _ c.eq.ensures) in
+    let q = asked_at t.names.items c.deref-known-items.result.now c.loop-id.id c.known-item.result c.as_bytes.result.now c.args.name.now c.eq.result
+    c.deref-known-items.ensures.value h c.known-item.is c.as_bytes.ensures.bytes (slice_eq-Decides Decides-eqb _ _ _ c.eq.ensures) in
     sym (place_here c.loop-id.id (bytes_eq c.args.name.now) ns l (q ∙ c.if-eq.true)) ∙ c.loop-id.invariant
 
 pub loop-id-preserved : goal.loop-id-preserved
@@ -25,8 +25,8 @@ loop-id-preserved c =
     let ns = (view t).names in
     let h : c.loop-id.id < length c.deref-known-items.result.now = c.loop-id-test.true in
     let l : c.loop-id.id < length ns = omega (arith, names-long t, c.deref-known-items.ensures.len) in
-    let q = asked_at t.names.items c.deref-known-items.result.now c.loop-id.id c.known-item.result c.as-bytes.result.now c.args.name.now c.eq.result
-    c.deref-known-items.ensures.value h c.known-item.is c.as-bytes.ensures.bytes (slice_eq-Decides Decides-eqb _ _ _ c.eq.ensures) in
+    let q = asked_at t.names.items c.deref-known-items.result.now c.loop-id.id c.known-item.result c.as_bytes.result.now c.args.name.now c.eq.result
+    c.deref-known-items.ensures.value h c.known-item.is c.as_bytes.ensures.bytes (slice_eq-Decides Decides-eqb _ _ _ c.eq.ensures) in
     sym (place-past c.loop-id.id (bytes_eq c.args.name.now) ns l (q ∙ c.if-eq.false)) ∙ c.loop-id.invariant
 
 pub returns : goal.returns

@@ -1,7 +1,6 @@
-use Rattle.std.proofs.Common.{◌≡◌, map, drop, vec_items}
+use Rattle.std.proofs.Common.{◌≡◌, drop}
 use Rattle.std.specs.Str.{bytes_eq}
 use Rattle.terms.specs.Lists.{place_from, place_in}
-use Rattle.image.specs.View.{text}
 use Rattle.image.specs.Learning.{view}
 use Rattle.image.proofs.table.DepsTable.id_of.Given as goal
 

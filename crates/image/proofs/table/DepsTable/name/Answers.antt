@@ -1,4 +1,4 @@
-use Rattle.std.proofs.Common.{◌≡◌, ℕ, ◌<◌, List, [], length, Some, vec_items, sym, refl, ap, ◌∙◌, arith}
+use Rattle.std.proofs.Common.{ℕ, ◌<◌, List, [], length, Some, vec_items, sym, refl, ap, ◌∙◌, arith}
 use Rattle.std.proofs.lemmas.Option.{slice_get-get_or, slice_get_past}
 use Rattle.image.specs.Learning.{view}
 use Rattle.image.proofs.Learned.{names-long}
@@ -13,5 +13,5 @@ returns c =
     let t = c.args.self.now in
     let h : c.args.id < length (vec_items t.names) = omega (arith, t.names.ok.0) in
     let l : c.args.id < length (view t).names = omega (arith, names-long t) in
-    ap (λ (xs : List ℕ). Some xs) (c.as-bytes.ensures.bytes ∙ sym (text_at (vec_items t.names) (vec_items t.names) c.args.id c.index.result.now refl h c.index.ensures)) ∙
+    ap (λ (xs : List ℕ). Some xs) (c.as_bytes.ensures.bytes ∙ sym (text_at (vec_items t.names) (vec_items t.names) c.args.id c.index.result.now refl h c.index.ensures)) ∙
     sym (slice_get-get_or (view t).names c.args.id [] l)

@@ -12,8 +12,9 @@ cp -r crates/medium "$copy/crates/medium"
 printf 'medium:\ndraftuse: medium\n' >"$copy/crates.txt"
 cat >"$copy/right.rt" <<'RATTLE'
 // Writes new live bytes in the place of the old ones.
-use medium::Fault;
-use medium::Medium;
+#![tactic(auto)]
+
+use medium::{Fault, Medium};
 
 pub fn replace<M: Medium>(m: &mut M, bytes: &[u8]) -> Result<(), Fault> {
     let draft = m.begin()?;
@@ -30,7 +31,7 @@ checks() {
     local right
     right=$(<"$copy/right.rt")
     printf '%s\n' "${right/"m.promote(draft)"/"$1"}" >"$copy/crates/draftuse/src/lib.rt"
-    (cd "$copy" && rt dev draftuse) >"$copy/out" 2>&1
+    (cd "$copy/crates/draftuse" && rt check) >"$copy/out" 2>&1
 }
 
 # Expects that the copy with $2 is refused with the compiler's error $1, and with no other.

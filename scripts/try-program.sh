@@ -14,7 +14,7 @@ import struct, sys
 name = b"n" * 121 + b"\0" * 3
 open(sys.argv[1], "wb").write(b"# ninjadeps\n" + struct.pack("<II", 4, len(name) + 4) + name + struct.pack("<I", 0xFFFFFFFF))
 P
-program=$PWD/target/bin/hefnwyrad
+program=$PWD/crates/hefnwyrad/out/hefnwyrad
 examples=$PWD/examples
 cp examples/*.deps "$scratch"
 one() {

@@ -1,4 +1,6 @@
 // What a medium is: a store for bytes whose power may fail inside any step. And a write buffer over any medium.
+#![tactic(auto)]
+
 ghost use Rattle.std.specs.Prelude.{◌≡◌, ◌+◌, nat_le};
 ghost use Rattle.medium.specs.Faults.{number_of};
 ghost use Rattle.medium.specs.State.{State};

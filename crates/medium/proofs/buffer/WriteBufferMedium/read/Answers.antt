@@ -1,4 +1,4 @@
-use Rattle.std.proofs.Common.{◌+◌, ◌-◌, ◌<◌, ◌≤◌, length, append_assoc, arith}
+use Rattle.std.proofs.Common.{◌+◌, ◌<◌, ◌≤◌, length, append_assoc, arith}
 use Rattle.medium.specs.State.{all}
 use Rattle.medium.specs.Holding.{kept}
 use Rattle.medium.proofs.Layers.{length-kept}
@@ -10,9 +10,9 @@ returns-then-offset-sizes g c =
     let b = c.args.self.now in
     let s = g.M.Medium.state b.below in
     let hs = kept s b.held b.len in
-    let z = c.in-ok-sizes.ensures in
-    let h = c.in-ok-n.ensures in
-    let n = c.in-ok-n.n in
+    let z = c.in_ok-sizes.ensures in
+    let h = c.in_ok-n.ensures in
+    let n = c.in_ok-n.n in
     let from = c.args.offset in
     let le : length (all s.live) + length hs ≤ from = omega (arith, z.below, c.if-offset-sizes.true, length-kept s b.held b.len _ _ z) in
     let w = append_assoc s.live.durable s.live.pending hs in
@@ -23,9 +23,9 @@ returns-then-offset-n g c =
     let b = c.args.self.now in
     let s = g.M.Medium.state b.below in
     let hs = kept s b.held b.len in
-    let z = c.in-ok-sizes.ensures in
-    let h = c.in-ok-n.ensures in
-    let n = c.in-ok-n.n in
+    let z = c.in_ok-sizes.ensures in
+    let h = c.in_ok-n.ensures in
+    let n = c.in_ok-n.n in
     let from = c.args.offset in
     let lt : from + n < length (all s.live) = omega (arith, z.below, c.if-offset-n.true) in
     let w = append_assoc s.live.durable s.live.pending hs in
@@ -36,18 +36,18 @@ returns g c =
     let b = c.args.self.now in
     let s = g.M.Medium.state b.below in
     let hs = kept s b.held b.len in
-    let z = c.in-ok-sizes.ensures in
-    let h = c.in-ok-n.ensures in
-    let n = c.in-ok-n.n in
-    let k = c.in-ok-sizes.sizes.held in
+    let z = c.in_ok-sizes.ensures in
+    let h = c.in_ok-n.ensures in
+    let n = c.in_ok-n.n in
+    let k = c.in_ok-sizes.sizes.held in
     let from = c.args.offset in
     let le : length (all s.live) ≤ from + n = omega (arith, z.below, c.if-offset-n.false) in
     let some : from < length (all s.live) + k = omega (arith, z.below, c.if-offset-sizes.false) in
     let size = length-kept s b.held b.len _ _ z in
     let w = append_assoc s.live.durable s.live.pending hs in
     let m = rw z.below at c.min-m.ensures in
-    let p = rw z.below at c.copy-from-slice.ensures.after in (
+    let p = rw z.below at c.copy_from_slice.ensures.after in (
       h.0,
       rw (← w) (on-count (all s.live) hs c.args.buf.now c.read.new.buf from n h.1 h.2 c.min-m.result k size le some m),
-      rw (← w) (on (all s.live) hs c.args.buf.now c.read.new.buf from n h.1 h.2 c.min-m.result k size le some m b.held c.copy-from-slice.new.self z.held p),
+      rw (← w) (on (all s.live) hs c.args.buf.now c.read.new.buf from n h.1 h.2 c.min-m.result k size le some m b.held c.copy_from_slice.new.self z.held p),
     )

@@ -1,5 +1,5 @@
 -- Entries of one table, told as notes in another. Assumes nothing.
-use Rattle.std.proofs.Common.{◌≡◌, ℕ, ◌+◌, ◌*◌, ◌<◌, ◌≤◌, Bool, true, false, ltb, leb, List, [], ◌∷◌, ◌++◌, map, length, get_or, take, drop, is_some, Some, None, sum_by, Option, sym, refl, ap, ◌∙◌, subst, arith}
+use Rattle.std.proofs.Common.{◌≡◌, ℕ, ◌+◌, ◌*◌, ◌<◌, ◌≤◌, Bool, true, false, ltb, List, [], ◌∷◌, ◌++◌, map, length, get_or, take, drop, is_some, Some, None, sum_by, Option, sym, refl, ap, ◌∙◌, subst, arith}
 use Rattle.std.specs.Str.{bytes_eq}
 use Rattle.std.proofs.lemmas.List.{append-nil, append_assoc, drop_more, at_drop_all, take_more, map_push, length-map}
 use Rattle.std.proofs.lemmas.Bool.{and_parts, cond-true}
@@ -10,10 +10,10 @@ use Rattle.image.specs.Bytes.{path, deps, record_bytes, records_bytes}
 use Rattle.image.specs.Kept.{fits_entry, Kept}
 use Rattle.image.specs.Learning.{takes_deps, deps_learned}
 use Rattle.image.proofs.Tests.{place_in_lem}
-use Rattle.notes.specs.Notes.{Says, Note, name_of, by_names, entry_of, unchanged, unknown, new_names, names_of, extended, id_in, id_at, deps_of, note_table, note_bytes, notes_table, notes_bytes}
+use Rattle.notes.specs.Notes.{Says, Note, name_of, by_names, unchanged, unknown, new_names, names_of, extended, id_in, id_at, deps_of, note_table, note_bytes, notes_table, notes_bytes}
 use Rattle.notes.specs.Compacting.{note_of, notes_for, compact_table}
 use Rattle.notes.specs.Wholeness.{Fitting, AllFit}
-use Rattle.notes.specs.Laws.{path_length, deps_length}
+use Rattle.notes.specs.Laws.{path_length}
 use Rattle.notes.proofs.Places.{is_known_lem, ids-below}
 use Rattle.notes.proofs.Noting.{all_in, records-full, table-full, named-names, note_names}
 use Rattle.notes.proofs.Entries.{entry-fits}

@@ -1,4 +1,4 @@
-use Rattle.std.proofs.Common.{◌≡◌, ℕ, ◌<◌, true, List, [], length, get_or, take, sym, ap, ◌∙◌, arith}
+use Rattle.std.proofs.Common.{◌≡◌, ℕ, ◌<◌, true, List, length, get_or, take, sym, ap, ◌∙◌, arith}
 use Rattle.std.proofs.lemmas.List.{length-take-le, take_all}
 use Rattle.std.proofs.lemmas.Bool.{lt-ltb, cond-true}
 use Rattle.terms.specs.Lists.{◌▷◌}
@@ -23,11 +23,11 @@ loop-id-preserved c =
     let was = entry_of c.loop-id.told in
     let i : was.inputs ≡ ids_in t u (take k ids) = ap (λ (e : Entry). e.inputs) c.loop-id.invariant in
     let l : length was.inputs ≡ k = ap length i ∙ ids-long t u (take k ids) ∙ length-take-le k ids (omega (arith, h)) in
-    let x : c.id-in.result ≡ id_in u.names (name_of t (get_or ids k 0)) = c.id-in.ensures.value ∙ ap (id_in u.names) c.name-of.ensures in
+    let x : c.id_in.result ≡ id_in u.names (name_of t (get_or ids k 0)) = c.id_in.ensures.value ∙ ap (id_in u.names) c.name_of.ensures in
     let room : c.push.result ≡ true = c.push.ensures.room ∙ lt-ltb (length was.inputs) 64 (omega (arith, l, h, c.inputs-ids.ensures.few)) in
-    c.push.ensures.after ∙ cond-true c.push.result (made was.mtime (was.inputs ▷ c.id-in.result)) was room ∙
-    ap (λ (n : ℕ). made n (was.inputs ▷ c.id-in.result)) (ap (λ (e : Entry). e.mtime) c.loop-id.invariant) ∙
-    ap (λ (xs : List ℕ). made m (xs ▷ c.id-in.result)) i ∙ ap (λ (y : ℕ). made m (ids_in t u (take k ids) ▷ y)) x ∙ ap (made m) (sym (ids_more t u ids k h))
+    c.push.ensures.after ∙ cond-true c.push.result (made was.mtime (was.inputs ▷ c.id_in.result)) was room ∙
+    ap (λ (n : ℕ). made n (was.inputs ▷ c.id_in.result)) (ap (λ (e : Entry). e.mtime) c.loop-id.invariant) ∙
+    ap (λ (xs : List ℕ). made m (xs ▷ c.id_in.result)) i ∙ ap (λ (y : ℕ). made m (ids_in t u (take k ids) ▷ y)) x ∙ ap (made m) (sym (ids_more t u ids k h))
 
 pub returns : goal.returns
 returns c =

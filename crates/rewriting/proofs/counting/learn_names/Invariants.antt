@@ -1,4 +1,4 @@
-use Rattle.std.proofs.Common.{◌≡◌, ℕ, ◌+◌, ◌*◌, ◌≤◌, List, ◌++◌, map, length, drop, sum_by}
+use Rattle.std.proofs.Common.{◌≡◌, ◌+◌, ◌*◌, ◌≤◌, ◌++◌, map, length, drop, sum_by}
 use Rattle.image.specs.Learning.{view}
 use Rattle.notes.specs.Notes.{name_of, new_names}
 use Rattle.notes.specs.Laws.{path_length}

@@ -1,4 +1,4 @@
-use Rattle.std.proofs.Common.{length, replicate, arith}
+use Rattle.std.proofs.Common.{replicate, arith}
 use Rattle.image.specs.Bytes.{deps, record_bytes}
 use Rattle.image.specs.View.{entry_of}
 use Rattle.image.proofs.Learned.{entry-short}
@@ -9,11 +9,11 @@ use Rattle.rewriting.proofs.drafting.draft_deps.Goals as goal
 pub unreachable-requires : goal.unreachable-requires
 unreachable-requires g c =
     let e = entry_of c.args.told.now in
-    wrote_not (record_bytes 0 (deps c.args.output e.mtime e.inputs)) (replicate 272 0) c.write-deps.new.buf c.in-Err.field-0 (omega (arith, length-deps c.args.output e.mtime e.inputs, entry-short c.args.told.now)) c.in-Err.ensures
+    wrote_not (record_bytes 0 (deps c.args.output e.mtime e.inputs)) (replicate 272 0) c.write_deps.new.buf c.in-Err.field-0 (omega (arith, length-deps c.args.output e.mtime e.inputs, entry-short c.args.told.now)) c.in-Err.ensures
 
 pub returns : goal.returns
 returns g c =
     let st = g.M.Medium.state in
     let e = entry_of c.args.told.now in
     let bs = record_bytes 0 (deps c.args.output e.mtime e.inputs) in
-    drafted_piece bs _ (st c.args.medium.now) c.draft_append.result (st c.draft_append.new.self) (wrote_it bs (replicate 272 0) c.write-deps.new.buf c.in-Ok.n c.in-Ok.ensures) c.requires c.draft_append.ensures
+    drafted_piece bs _ (st c.args.medium.now) c.draft_append.result (st c.draft_append.new.self) (wrote_it bs (replicate 272 0) c.write_deps.new.buf c.in-Ok.n c.in-Ok.ensures) c.requires c.draft_append.ensures

@@ -1,28 +1,24 @@
-use Rattle.std.proofs.Common.{◌≡◌, ℕ, ◌+◌, ◌≤◌, true, false, ltb, List, [], ◌∷◌, ◌++◌, map, length, Ok, Err, Result, sym, refl, ap, ◌∙◌, subst, arith}
-use Rattle.std.proofs.lemmas.Result.{err_from_is_err_and}
+use Rattle.std.proofs.Common.{◌≡◌, ℕ, ◌≤◌, true, ltb, List, ◌++◌, map, length, sym, refl, ap, ◌∙◌, subst}
 use Rattle.std.proofs.lemmas.Bool.{and_parts}
 use Rattle.terms.specs.Lists.{every}
-use Rattle.medium.specs.declared.Fault.{Fault}
-use Rattle.medium.specs.State.{State, with_drafted}
+use Rattle.medium.specs.State.{with_drafted}
 use Rattle.image.specs.Names.{is_name}
-use Rattle.image.specs.Bytes.{deps, record_bytes}
-use Rattle.image.specs.Tables.{Entry}
 use Rattle.image.specs.View.{entry_of}
 use Rattle.image.specs.Learning.{view, deps_learned}
-use Rattle.notes.specs.Notes.{name_of, unknown, new_names, id_in, note_bytes, note_table}
-use Rattle.rewriting.specs.Drafting.{DraftedAll, IfOk, paths_bytes, with_names, note_at}
+use Rattle.notes.specs.Notes.{name_of, unknown, new_names, id_in}
+use Rattle.rewriting.specs.Drafting.{DraftedAll, paths_bytes, with_names, note_at}
 use Rattle.rewriting.proofs.Names.{few-first, few_then}
 use Rattle.rewriting.proofs.Told.{few-all, entry-learned, note_bytes_lem, deps-left, deps-is}
 use Rattle.rewriting.proofs.Drafts.{RoomFor, left-on, left-room, left-last, room-first, piece_drafted, if_ok}
 use Rattle.rewriting.proofs.recompaction.draft_entry.Goals as goal
 
-pub draft-name-requires : goal.draft-name-requires
-draft-name-requires g c =
+pub draft_name-requires : goal.draft_name-requires
+draft_name-requires g c =
     let s = g.M.Medium.state c.args.medium.now in
     let t = view c.args.from.now in
     let u = view c.args.into.now in
     let n = note_at t c.args.id (entry_of c.args.old.now) in
-    let e = c.name-of-output.ensures in
+    let e = c.name_of-output.ensures in
     let v = with_names u (unknown u.names n.output) in
     let b = note_bytes_lem u v (with_names v (new_names v.names n.says.inputs)) n c.requires.news refl refl in
     record {
@@ -32,20 +28,20 @@ draft-name-requires g c =
       room = subst (λ (y : List ℕ). RoomFor (paths_bytes (length u.names) (unknown u.names y)) s) (sym e) (room-first _ _ _ s b c.requires.room);
     }
 
-pub draft-names-requires : goal.draft-names-requires
-draft-names-requires g c =
+pub draft_names-requires : goal.draft_names-requires
+draft_names-requires g c =
     let st = g.M.Medium.state in
     let z = st c.args.medium.now in
-    let s = st c.draft-name.new.medium in
+    let s = st c.draft_name.new.medium in
     let t = view c.args.from.now in
     let u = view c.args.into.now in
-    let v = view c.draft-name.new.into in
+    let v = view c.draft_name.new.into in
     let n = note_at t c.args.id (entry_of c.args.old.now) in
-    let o = c.name-of-output.ensures in
+    let o = c.name_of-output.ensures in
     let i = c.inputs-inputs.ensures.ids in
-    let e : v ≡ with_names u (unknown u.names n.output) = c.draft-name.ensures.known ∙ ap (λ (y : List ℕ). with_names u (unknown u.names y)) o in
+    let e : v ≡ with_names u (unknown u.names n.output) = c.draft_name.ensures.known ∙ ap (λ (y : List ℕ). with_names u (unknown u.names y)) o in
     let b = note_bytes_lem u v (with_names v (new_names v.names n.says.inputs)) n c.requires.news e refl in
-    let a = c.in-ok-draft-name.ensures.drafted.after ∙ ap (λ (y : List ℕ). with_drafted (paths_bytes (length u.names) (unknown u.names y)) z) o in
+    let a = c.in_ok-draft_name.ensures.drafted.after ∙ ap (λ (y : List ℕ). with_drafted (paths_bytes (length u.names) (unknown u.names y)) z) o in
     let l = piece_drafted _ _ _ _ z s z b refl a in
     record {
       on = left-on _ s _ z l c.requires.on;
@@ -55,44 +51,44 @@ draft-names-requires g c =
       room = subst (λ (xs : List ℕ). RoomFor (paths_bytes (length v.names) (new_names v.names (map (name_of t) xs))) s) (sym i) (room-first _ _ _ s refl (left-room _ s _ z l c.requires.room));
     }
 
-pub draft-deps-requires : goal.draft-deps-requires
-draft-deps-requires g c =
+pub draft_deps-requires : goal.draft_deps-requires
+draft_deps-requires g c =
     let st = g.M.Medium.state in
     let z = st c.args.medium.now in
-    let w = st c.draft-names.new.medium in
+    let w = st c.draft_names.new.medium in
     let t = view c.args.from.now in
     let u = view c.args.into.now in
-    let v = view c.draft-name.new.into in
-    let x = view c.draft-names.new.into in
+    let v = view c.draft_name.new.into in
+    let x = view c.draft_names.new.into in
     let n = note_at t c.args.id (entry_of c.args.old.now) in
-    let o = c.name-of-output.ensures in
+    let o = c.name_of-output.ensures in
     let i = c.inputs-inputs.ensures.ids in
-    let l = deps-left u v x n z (st c.draft-name.new.medium) w c.name-of-output.result.now (map (name_of t) c.inputs-inputs.result.now) c.requires.news o (ap (map (name_of t)) i)
-    c.draft-name.ensures.known c.in-ok-draft-names.ensures.known c.in-ok-draft-name.ensures.drafted.after c.in-ok-draft-names.ensures.drafted.after in
-    let q = deps-is x n c.id-in-number.result (entry_of c.entry-in-told.result) (c.id-in-number.ensures.value ∙ ap (id_in x.names) o) c.entry-in-told.ensures in
+    let l = deps-left u v x n z (st c.draft_name.new.medium) w c.name_of-output.result.now (map (name_of t) c.inputs-inputs.result.now) c.requires.news o (ap (map (name_of t)) i)
+    c.draft_name.ensures.known c.in_ok-draft_names.ensures.known c.in_ok-draft_name.ensures.drafted.after c.in_ok-draft_names.ensures.drafted.after in
+    let q = deps-is x n c.id_in-number.result (entry_of c.entry_in-told.result) (c.id_in-number.ensures.value ∙ ap (id_in x.names) o) c.entry_in-told.ensures in
     subst (λ (bs : List ℕ). RoomFor bs w) (sym q) (left-room _ w _ z l c.requires.room)
 
 pub returns : goal.returns
 returns g c =
     let st = g.M.Medium.state in
     let z = st c.args.medium.now in
-    let w = st c.draft-names.new.medium in
+    let w = st c.draft_names.new.medium in
     let t = view c.args.from.now in
     let u = view c.args.into.now in
-    let v = view c.draft-name.new.into in
-    let x = view c.draft-names.new.into in
+    let v = view c.draft_name.new.into in
+    let x = view c.draft_names.new.into in
     let n = note_at t c.args.id (entry_of c.args.old.now) in
-    let o = c.name-of-output.ensures in
+    let o = c.name_of-output.ensures in
     let i = c.inputs-inputs.ensures.ids in
-    let e : v ≡ with_names u (unknown u.names n.output) = c.draft-name.ensures.known ∙ ap (λ (y : List ℕ). with_names u (unknown u.names y)) o in
-    let d : x ≡ with_names v (new_names v.names n.says.inputs) = c.in-ok-draft-names.ensures.known ∙ ap (λ (xs : List ℕ). with_names v (new_names v.names (map (name_of t) xs))) i in
-    let l = deps-left u v x n z (st c.draft-name.new.medium) w c.name-of-output.result.now (map (name_of t) c.inputs-inputs.result.now) c.requires.news o (ap (map (name_of t)) i)
-    c.draft-name.ensures.known c.in-ok-draft-names.ensures.known c.in-ok-draft-name.ensures.drafted.after c.in-ok-draft-names.ensures.drafted.after in
-    let id = c.id-in-number.ensures.value ∙ ap (id_in x.names) o in
-    let q = deps-is x n c.id-in-number.result (entry_of c.entry-in-told.result) id c.entry-in-told.ensures in
-    let k = c.learn-deps.ensures ∙ ap (λ (y : ℕ). deps_learned x y (entry_of c.entry-in-told.result)) id ∙ ap (deps_learned x (id_in x.names n.output)) c.entry-in-told.ensures in
-    let f = st c.draft-deps.new.medium in
+    let e : v ≡ with_names u (unknown u.names n.output) = c.draft_name.ensures.known ∙ ap (λ (y : List ℕ). with_names u (unknown u.names y)) o in
+    let d : x ≡ with_names v (new_names v.names n.says.inputs) = c.in_ok-draft_names.ensures.known ∙ ap (λ (xs : List ℕ). with_names v (new_names v.names (map (name_of t) xs))) i in
+    let l = deps-left u v x n z (st c.draft_name.new.medium) w c.name_of-output.result.now (map (name_of t) c.inputs-inputs.result.now) c.requires.news o (ap (map (name_of t)) i)
+    c.draft_name.ensures.known c.in_ok-draft_names.ensures.known c.in_ok-draft_name.ensures.drafted.after c.in_ok-draft_names.ensures.drafted.after in
+    let id = c.id_in-number.ensures.value ∙ ap (id_in x.names) o in
+    let q = deps-is x n c.id_in-number.result (entry_of c.entry_in-told.result) id c.entry_in-told.ensures in
+    let k = c.learn_deps.ensures ∙ ap (λ (y : ℕ). deps_learned x y (entry_of c.entry_in-told.result)) id ∙ ap (deps_learned x (id_in x.names n.output)) c.entry_in-told.ensures in
+    let f = st c.draft_deps.new.medium in
     record {
-      drafted = left-last _ w _ z l c.draft-deps.result f c.requires.on (subst (λ (bs : List ℕ). DraftedAll bs w c.draft-deps.result f) q c.draft-deps.ensures);
-      known = if_ok c.draft-deps.result _ (entry-learned u v x n c.requires.fitting c.requires.news e d c.learn-deps.result (view c.learn-deps.new.self) k);
+      drafted = left-last _ w _ z l c.draft_deps.result f c.requires.on (subst (λ (bs : List ℕ). DraftedAll bs w c.draft_deps.result f) q c.draft_deps.ensures);
+      known = if_ok c.draft_deps.result _ (entry-learned u v x n c.requires.fitting c.requires.news e d c.learn_deps.result (view c.learn_deps.new.self) k);
     }

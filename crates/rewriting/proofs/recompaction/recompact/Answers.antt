@@ -1,4 +1,4 @@
-use Rattle.std.proofs.Common.{◌≡◌, ℕ, length, sym, ap, ◌∙◌, arith}
+use Rattle.std.proofs.Common.{length, arith}
 use Rattle.std.proofs.lemmas.Bool.{le-ltb}
 use Rattle.image.specs.Learning.{view}
 use Rattle.notes.specs.Compacting.{compact_bytes}
@@ -11,9 +11,9 @@ returns-in-Ok g c =
     let s = st c.args.medium.now in
     let xs = compact_bytes (view c.args.from.now) in
     let q = c.in-Ok.ensures in
-    let b = c.in-ok-draft.ensures in
-    let room = le-ltb s.capacity (length xs) (omega (arith, c.if-capacity-count-entries.false, c.capacity.ensures, c.count-entries.ensures.length)) in
+    let b = c.in_ok-draft.ensures in
+    let room = le-ltb s.capacity (length xs) (omega (arith, c.if-capacity-count_entries.false, c.capacity.ensures, c.count_entries.ensures.length)) in
     record {
-      medium = promoted_in_place xs s (st c.begin.new.self) (st c.fill-draft.new.medium) (st c.promote.new.self) c.promote.result room b.on b.after q.filled.after c.promote.ensures;
+      medium = promoted_in_place xs s (st c.begin.new.self) (st c.fill_draft.new.medium) (st c.promote.new.self) c.promote.result room b.on b.after q.filled.after c.promote.ensures;
       known = if_ok c.promote.result _ q.known;
     }

@@ -1,4 +1,6 @@
 // The media at the bottom of a pile: bench, whose failures are told, and paged, which keeps whole pages.
+#![tactic(auto)]
+
 mod bench;
 mod paged;
 mod shelf;

@@ -7,5 +7,5 @@ returns c =
     let f = c.args.self.now in
     record {
       count = omega (arith, c.min-n.ensures, c.count-len.ensures.bytes);
-      bytes = read_front_lem f.area.now c.copy-from-slice.new.self c.args.buf.now c.args.room f.len f.durable c.count-len.result c.args.offset c.min-n.result c.count-len.ensures.is c.if-offset-len.false c.min-n.ensures c.copy-from-slice.ensures.after;
+      bytes = read_front_lem f.area.now c.copy_from_slice.new.self c.args.buf.now c.args.room f.len f.durable c.count-len.result c.args.offset c.min-n.result c.count-len.ensures.is c.if-offset-len.false c.min-n.ensures c.copy_from_slice.ensures.after;
     }

@@ -10,4 +10,4 @@ returns c =
     let n = c.count-at.ensures in
     let fits : at + length bs ≤ min 4096 (length t.bytes) = omega (arith, c.requires, n.bytes, n.long) in
     let is : at ≡ min t.len (min 4096 (length t.bytes)) = omega (arith, n.is, n.long) in
-    rw c.copy-from-slice.ensures.after (push_front t.bytes bs 4096 t.len t.durable at c.min-self.result is c.min-self.ensures fits)
+    rw c.copy_from_slice.ensures.after (push_front t.bytes bs 4096 t.len t.durable at c.min-self.result is c.min-self.ensures fits)

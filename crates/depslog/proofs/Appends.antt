@@ -1,14 +1,14 @@
 -- Appending in pieces. Assumes nothing.
-use Rattle.std.proofs.Common.{◌≡◌, ℕ, zero, suc, ◌+◌, ◌-◌, ◌<◌, ◌≤◌, min, Bool, true, false, cond, leb, ◌⊎◌, List, [], ◌∷◌, ◌++◌, map, length, get_or, take, drop, is_err, Ok, Err, Result, sym, refl, ap, ◌∙◌, subst, inl, inr, arith}
+use Rattle.std.proofs.Common.{◌≡◌, ℕ, zero, suc, ◌+◌, ◌<◌, ◌≤◌, min, Bool, true, false, List, [], ◌∷◌, ◌++◌, length, get_or, take, drop, is_err, Ok, Err, Result, sym, refl, ap, ◌∙◌, subst, inl, inr, arith}
 use Rattle.std.proofs.lemmas.List.{append_assoc, append-nil, length-append, take_at, take_all, take-append-le, take-append-drop, take_more, length-take-le}
-use Rattle.std.proofs.lemmas.Bool.{cases_lt, le-leb, cond-true, true≢false, false≢true, and_parts}
+use Rattle.std.proofs.lemmas.Bool.{cases_lt, true≢false, false≢true, and_parts}
 use Rattle.medium.specs.declared.Fault.{Fault}
 use Rattle.medium.specs.declared.Fault.TheVariants.{Off, Full}
-use Rattle.medium.specs.State.{Bytes, State, all, settled, more, cut, with_appended}
+use Rattle.medium.specs.State.{Bytes, State, settled, more, cut, with_appended}
 use Rattle.medium.specs.Failure.{Fell}
-use Rattle.medium.specs.Calls.{Granted, Idle, Broken, Appended}
+use Rattle.medium.specs.Calls.{Appended}
 use Rattle.terms.specs.Lists.{every}
-use Rattle.image.specs.Bytes.{path, record_bytes, records_bytes}
+use Rattle.image.specs.Bytes.{path, record_bytes}
 use Rattle.rewriting.specs.Drafting.{paths_bytes}
 use Rattle.rewriting.proofs.Paths.{paths-both}
 use Rattle.depslog.specs.State.{live_of}

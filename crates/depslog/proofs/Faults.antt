@@ -5,7 +5,7 @@ use Rattle.terms.specs.declared.Refusal.{Refusal}
 use Rattle.terms.specs.declared.Refusal.TheVariants.{Full, NoHeader, OverLimit, CopyShort}
 use Rattle.image.specs.declared.filled.Filled.{Filled}
 use Rattle.image.specs.Tables.{Table, bare}
-use Rattle.image.specs.Scans.{Scan, has_header, image_of, over_limit, good_bytes, scanned, known, fill_from, fill_by, filled}
+use Rattle.image.specs.Scans.{has_header, image_of, over_limit, good_bytes, scanned, known, fill_from, filled}
 use Rattle.depslog.specs.Checks.{refuse, mends, over_fault, open_fault}
 
 -- no room for the good bytes, where they differ

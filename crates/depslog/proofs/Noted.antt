@@ -1,5 +1,5 @@
 -- What a note writes and teaches, and what its checks say. Assumes nothing.
-use Rattle.std.proofs.Common.{◌≡◌, ℕ, ◌+◌, ◌<◌, ◌≤◌, Bool, true, false, cond, not, List, [], ◌∷◌, ◌++◌, map, length, Some, None, Ok, Err, Option, Result, sym, refl, ap, ◌∙◌, subst, inl, inr, arith}
+use Rattle.std.proofs.Common.{◌≡◌, ℕ, ◌+◌, Bool, true, false, cond, not, List, [], ◌∷◌, ◌++◌, map, length, Some, None, Ok, Err, Option, sym, refl, ap, ◌∙◌, subst, inl, inr, arith}
 use Rattle.std.proofs.lemmas.List.{append_assoc, append-nil}
 use Rattle.std.proofs.lemmas.Bool.{cases_Bool, and_parts, and_from, cond-true}
 use Rattle.terms.specs.declared.Place.{Place}
@@ -7,18 +7,18 @@ use Rattle.terms.specs.declared.Refusal.{Refusal}
 use Rattle.terms.specs.declared.Refusal.TheVariants.{Outside, NotName}
 use Rattle.terms.specs.Lists.{every, is_in, ◌▷◌}
 use Rattle.image.specs.Names.{is_name}
-use Rattle.image.specs.Bytes.{Record, path, deps, record_bytes, records_bytes}
+use Rattle.image.specs.Bytes.{path, deps, record_bytes, records_bytes}
 use Rattle.image.specs.Reading.{is_known}
-use Rattle.image.specs.Tables.{Entry, Table, learn, learn_all}
+use Rattle.image.specs.Tables.{Entry, Table, learn}
 use Rattle.image.specs.Laws.{AllWritable}
 use Rattle.image.specs.Learning.{takes_deps, deps_learned}
 use Rattle.notes.specs.Notes.{Note, unchanged, new_names, names_of, extended, id_in, deps_of, note_bytes, note_table}
 use Rattle.notes.specs.Wholeness.{Fitting}
-use Rattle.notes.specs.Meant.{cut, meant}
+use Rattle.notes.specs.Meant.{cut}
 use Rattle.notes.proofs.Noting.{new-known, new-unknown, all_in, records-full, named, named-names, table-full, note_writable}
 use Rattle.notes.proofs.Places.{ids-below}
 use Rattle.notes.proofs.Keeping.{front_writable}
-use Rattle.depslog.specs.Noting.{outside, place_fault, name_fault}
+use Rattle.depslog.specs.Noting.{outside, name_fault}
 use Rattle.depslog.proofs.Cuts.{Checked}
 use Rattle.depslog.proofs.Appends.{paths}
 

@@ -1,5 +1,5 @@
 -- An open, by the way that it took. m is the medium of the closed log before it. Assumes nothing.
-use Rattle.std.proofs.Common.{◌≡◌, ℕ, ◌-◌, ◌<◌, ◌≤◌, Bool, true, false, cond, ◌&&◌, ltb, ◌⊎◌, List, ◌++◌, length, take, drop, Some, None, Ok, Err, Option, Result, sym, refl, ap, ◌∙◌, subst, inl, inr, arith}
+use Rattle.std.proofs.Common.{◌≡◌, ℕ, ◌-◌, ◌<◌, ◌≤◌, Bool, true, false, cond, ◌&&◌, ltb, ◌⊎◌, List, length, take, drop, Some, None, Ok, Err, Option, Result, sym, refl, ap, ◌∙◌, subst, inl, inr, arith}
 use Rattle.std.proofs.lemmas.List.{take_at}
 use Rattle.std.proofs.lemmas.Bool.{cond-true, cond-false, le-ltb, lt-ltb}
 use Rattle.medium.specs.declared.Fault.{Fault}
@@ -14,13 +14,13 @@ use Rattle.image.specs.declared.filled.Filled.{Filled}
 use Rattle.image.specs.Tables.{Table}
 use Rattle.image.specs.Scans.{good_bytes, known, filled}
 use Rattle.depslog.specs.declared.opened.Opened.{Opened}
-use Rattle.depslog.specs.State.{LogState, closed_on, open_on, with_medium, live_of}
-use Rattle.depslog.specs.Checks.{mends, open_fault, refuse}
+use Rattle.depslog.specs.State.{LogState, closed_on, open_on, live_of}
+use Rattle.depslog.specs.Checks.{mends, open_fault}
 use Rattle.depslog.specs.Replacing.{Replaced}
 use Rattle.depslog.specs.Calls.{Judged, Ended, Mended, opened_of, copied, buffer_after, OpenedLog, dark, lit}
 use Rattle.depslog.specs.Opening as opening
 use Rattle.depslog.specs.Opening.{CopiedLive, CopyWhole, Went, PutInPlace, MendedLive}
-use Rattle.depslog.proofs.Faults.{full, fault-short, fault-room, Readable, readable, unreadable}
+use Rattle.depslog.proofs.Faults.{fault-short, fault-room, Readable, unreadable}
 
 -- what stands behind the checks
 abbrev Rest : State → Result Opened Refusal → LogState → Type 0

@@ -1,5 +1,5 @@
 -- What each call of the log answers, and what it leaves. s is the log before the call, r the answer and t the log after. Assumes nothing.
-use Rattle.std.specs.Prelude.{◌≡◌, ℕ, Bool, true, false, cond, ◌⊎◌, List, [], ◌++◌, length, drop, Some, None, Ok, Err, Option, Result, nat_lt, slice_index_or}
+use Rattle.std.specs.Prelude.{◌≡◌, ℕ, true, false, cond, ◌⊎◌, List, [], ◌++◌, length, drop, Some, None, Ok, Err, Option, Result, nat_lt, slice_index_or}
 use Rattle.std.specs.List.{slice_get}
 use Rattle.medium.specs.declared.Fault.{Fault}
 use Rattle.medium.specs.declared.Fault.TheVariants.{Off}

@@ -1,8 +1,8 @@
 -- When a call of the log is refused, in the order of its checks; the power aside. Assumes nothing.
-use Rattle.std.specs.Prelude.{ℕ, Bool, true, false, cond, not, ◌&&◌, List, length, Some, None, Option, nat_lt}
+use Rattle.std.specs.Prelude.{ℕ, Bool, cond, not, ◌&&◌, List, length, Some, None, Option, nat_lt}
 use Rattle.std.specs.Str.{bytes_eq}
 use Rattle.terms.specs.declared.Refusal.{Refusal}
-use Rattle.terms.specs.declared.Refusal.TheVariants.{Full, Closed, AlreadyOpen, NoHeader, OverLimit, CopyShort, NotName}
+use Rattle.terms.specs.declared.Refusal.TheVariants.{Full, Closed, NoHeader, OverLimit, CopyShort, NotName}
 use Rattle.image.specs.Names.{is_name}
 use Rattle.image.specs.Scans.{has_header, image_of, over_limit, good_bytes}
 

@@ -1,5 +1,5 @@
 -- The parts of an open: copying the live bytes, and mending them. m is the medium before and n after. Assumes nothing.
-use Rattle.std.specs.Prelude.{◌≡◌, ℕ, ◌<◌, ◌≤◌, true, false, cond, ◌&&◌, ◌⊎◌, List, length, Ok, Err, Result, nat_lt}
+use Rattle.std.specs.Prelude.{◌≡◌, ℕ, ◌<◌, ◌≤◌, true, false, cond, ◌⊎◌, List, length, Ok, Err, Result, nat_lt}
 use Rattle.medium.specs.declared.Fault.TheVariants.{Off}
 use Rattle.medium.specs.State.{State, with_power}
 use Rattle.medium.specs.Calls.{Synced}

@@ -1,4 +1,6 @@
 // The log on any medium.
+#![tactic(auto)]
+
 mod calls;
 mod finding;
 mod fresh;

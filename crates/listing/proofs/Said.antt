@@ -1,13 +1,11 @@
 -- What a line of a listing says, part by part. Assumes nothing.
-use Rattle.std.proofs.Common.{◌≡◌, ℕ, ◌+◌, ◌-◌, ◌<◌, ◌≤◌, Bool, true, false, cond, not, ◌&&◌, ltb, leb, List, [], ◌∷◌, map, length, take, drop, Some, None, Ok, Err, codes, Option, Result, sym, refl, ap, ◌∙◌, subst, arith}
+use Rattle.std.proofs.Common.{◌≡◌, ℕ, ◌+◌, ◌-◌, ◌<◌, ◌≤◌, Bool, true, false, cond, not, ltb, leb, List, ◌∷◌, length, take, drop, Some, None, Ok, Err, codes, Option, Result, sym, refl, ap, ◌∙◌, arith}
 use Rattle.std.specs.Str.{bytes_eq}
 use Rattle.std.proofs.lemmas.Slice.Eq.{bytes_eq-Decides}
 use Rattle.std.proofs.lemmas.List.{drop-take, drop-drop, take-take, take_all, length-take, length-drop}
-use Rattle.std.proofs.lemmas.Bool.{cond-true, cond-false, and_from, and_left, and_right, not_from_false, not_from_true, cases_Bool, both_ways, lt-ltb, le-leb, lt-leb}
+use Rattle.std.proofs.lemmas.Bool.{cond-true, cond-false, and_from, and_left, and_right, not_from_false, not_from_true, lt-ltb, le-leb, lt-leb}
 use Rattle.terms.specs.declared.At.{At}
-use Rattle.terms.specs.declared.Place.{Place}
 use Rattle.terms.specs.Lists.{◌▷◌}
-use Rattle.lists.specs.Words.{placed}
 use Rattle.words.specs.declared.class.Class.TheVariants.{Digit}
 use Rattle.words.specs.Runs.{is_of, front, beyond}
 use Rattle.words.proofs.Spans.{take-front, drop_run}

@@ -1,5 +1,5 @@
 -- What a listing says, line by line, and the first fault of one that breaks a rule. Assumes nothing.
-use Rattle.std.specs.Prelude.{ℕ, ◌+◌, ◌-◌, ◌*◌, Bool, true, false, cond, not, ◌&&◌, ◌||◌, List, [], ◌∷◌, length, take, drop, Some, None, Ok, Err, codes, Option, Result, nat_le}
+use Rattle.std.specs.Prelude.{ℕ, ◌+◌, ◌-◌, ◌*◌, Bool, cond, not, ◌&&◌, List, [], ◌∷◌, length, take, drop, Some, None, Ok, Err, codes, Option, Result, nat_le}
 use Rattle.std.specs.Str.{bytes_eq}
 use Rattle.terms.specs.declared.At.{At}
 use Rattle.terms.specs.Lists.{every, some, ◌▷◌}

@@ -1,4 +1,6 @@
 // Reading listings: a line for each file, its mtime and its name.
+#![tactic(auto)]
+
 mod decimal;
 mod entry;
 mod fault;

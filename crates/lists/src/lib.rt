@@ -1,4 +1,6 @@
 // A list that grows over memory that the caller lends, parts of slices, and the one lookup by key.
+#![tactic(auto)]
+
 mod grow;
 mod grown;
 mod lookup;

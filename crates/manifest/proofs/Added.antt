@@ -1,14 +1,13 @@
 -- The words of a statement that is added. Assumes nothing.
-use Rattle.std.proofs.Common.{◌≡◌, ℕ, ◌+◌, ◌-◌, ◌*◌, ◌<◌, ◌≤◌, Bool, true, false, cond, ◌||◌, ltb, List, [], ◌∷◌, ◌++◌, map, length, take, drop, sym, refl, ap, ◌∙◌, subst, arith}
-use Rattle.std.proofs.lemmas.List.{append_assoc, append-nil, length-append, length-map, length-drop, take-append-drop, take-append-le, drop-append-le, take_at, drop_at, map_push}
+use Rattle.std.proofs.Common.{◌≡◌, ℕ, ◌+◌, ◌≤◌, false, ltb, List, [], ◌∷◌, ◌++◌, map, length, take, drop, sym, refl, ap, ◌∙◌, arith}
+use Rattle.std.proofs.lemmas.List.{append_assoc, append-nil, length-append, length-map, length-drop, take-append-drop, take-append-le, drop-append-le, take_at, drop_at}
 use Rattle.std.proofs.lemmas.Bool.{or_parts, ltb-false}
 use Rattle.terms.specs.declared.Place.{Place}
-use Rattle.terms.specs.Lists.{some, ◌▷◌}
+use Rattle.terms.specs.Lists.{◌▷◌}
 use Rattle.words.specs.Spelling.{name_at}
 use Rattle.manifest.specs.declared.rule.Statement.{Statement}
-use Rattle.manifest.specs.Building.{Inputs, Build}
+use Rattle.manifest.specs.Building.{Build}
 use Rattle.manifest.specs.Books.{Making, is_over}
-use Rattle.manifest.specs.Groups.{is_long}
 use Rattle.manifest.specs.Kept.{words_end, Within}
 use Rattle.manifest.specs.Stored.{Stored}
 use Rattle.manifest.specs.Views.{names, making}

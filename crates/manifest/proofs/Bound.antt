@@ -1,7 +1,7 @@
 -- A binding, by where its parts stand. Assumes nothing.
-use Rattle.std.proofs.Common.{◌≡◌, ℕ, ◌+◌, ◌-◌, ◌<◌, ◌≤◌, Bool, true, false, cond, not, ◌&&◌, List, [], ◌∷◌, length, take, drop, Some, None, codes, Option, sym, refl, ap, ◌∙◌, subst, inl, inr, arith}
+use Rattle.std.proofs.Common.{◌≡◌, ℕ, ◌+◌, ◌-◌, ◌<◌, true, false, not, List, [], ◌∷◌, length, take, drop, Some, None, codes, sym, refl, ap, ◌∙◌, inl, inr, arith}
 use Rattle.std.specs.Str.{bytes_eq}
-use Rattle.std.proofs.lemmas.List.{drop-drop, drop_all, take_all, length-drop, nil_from_length}
+use Rattle.std.proofs.lemmas.List.{drop-drop, drop_all, take_all, length-drop}
 use Rattle.std.proofs.lemmas.Bool.{cond-true, cond-false, and_from, and_left, and_right, not_from_false, not_from_true, cases_lt, both_ways}
 use Rattle.terms.specs.Lists.{empty, every}
 use Rattle.words.specs.declared.class.Class.TheVariants.{Space, InKey, Shown}

@@ -1,13 +1,11 @@
 -- Rules that are declared, and statements that are added. Assumes nothing.
-use Rattle.std.proofs.Common.{◌≡◌, ℕ, ◌+◌, ◌<◌, ◌≤◌, Bool, true, false, cond, ◌||◌, ltb, leb, List, [], ◌∷◌, ◌++◌, map, length, is_some, Some, None, Ok, Err, Option, Result, sym, refl, ap, ◌∙◌, subst, arith}
-use Rattle.std.proofs.lemmas.List.{length-map, map_push}
+use Rattle.std.proofs.Common.{◌≡◌, ℕ, ◌<◌, ◌≤◌, Bool, true, false, cond, ◌||◌, ltb, leb, List, length, is_some, Some, None, Ok, Err, Option, Result, sym, refl, ap, ◌∙◌}
 use Rattle.std.proofs.lemmas.Bool.{cond-true, cond-false, lt-ltb, le-leb, lt-leb, le-ltb, or_left, or_right, or_from, both_ways}
 use Rattle.terms.specs.Lists.{◌▷◌}
 use Rattle.manifest.specs.declared.fault.Fault.{Fault}
 use Rattle.manifest.specs.declared.fault.Fault.TheVariants.{RuleDeclared, PastLimit}
-use Rattle.manifest.specs.declared.fault.Owner.TheVariants.{LastRule}
 use Rattle.manifest.specs.Building.{Build}
-use Rattle.manifest.specs.Books.{Declaration, Making, Book, Reading, is_over, add_rule, declared_by, stated_by}
+use Rattle.manifest.specs.Books.{Book, Reading, is_over, add_rule, declared_by, stated_by}
 use Rattle.manifest.specs.Groups.{is_long}
 
 pub none_from : {A : Type 0} (o : Option A) → is_some o ≡ false → o ≡ None

@@ -1,7 +1,5 @@
 -- Names and marks, token by token. Assumes nothing.
-use Rattle.std.proofs.Common.{◌≡◌, ℕ, ◌+◌, ◌<◌, ◌≤◌, Bool, true, false, cond, not, ◌||◌, List, [], ◌∷◌, ◌++◌, length, drop, Some, None, Option, sym, refl, ap, ◌∙◌, subst, arith}
-use Rattle.std.specs.Option.{option_map}
-use Rattle.std.proofs.lemmas.List.{drop_all}
+use Rattle.std.proofs.Common.{◌≡◌, ℕ, ◌+◌, ◌<◌, ◌≤◌, Bool, true, false, cond, ◌||◌, List, [], ◌∷◌, length, drop, Some, None, Option, sym, refl, ap, ◌∙◌, arith}
 use Rattle.std.proofs.lemmas.Bool.{cond-true, cond-false}
 use Rattle.terms.specs.Lists.{empty, some}
 use Rattle.words.specs.declared.spelling.Word.{Word}
@@ -13,7 +11,7 @@ use Rattle.words.specs.Tokens.{Lexeme, named, tokens, front_token}
 use Rattle.words.proofs.Lexemes.{tokens_read, no_token}
 use Rattle.manifest.specs.declared.group.Group.{Group}
 use Rattle.manifest.proofs.Bound.{empty-none, empty-some}
-use Rattle.manifest.specs.Building.{is_colon, is_bar, is_bars, names_of, marks_of, following, behind, Inputs, inputs_of, Build, with_inputs, with_rule, with_colon, build_of, rule_of}
+use Rattle.manifest.specs.Building.{is_colon, is_bar, is_bars, names_of, marks_of, following, behind, Inputs, inputs_of, with_rule, with_colon, build_of, rule_of}
 use Rattle.manifest.specs.Groups.{is_long, rest, group_names, Sums, Gathered}
 
 -- the tokens from an offset on, by the token that was read there

@@ -1,12 +1,10 @@
 -- Adding places, one by one. Assumes nothing.
-use Rattle.std.proofs.Common.{◌≡◌, ℕ, suc, ◌+◌, ◌-◌, ◌<◌, ◌≤◌, Bool, true, cond, ltb, List, [], ◌∷◌, ◌++◌, map, length, take, drop, sym, refl, ap, ◌∙◌, subst, arith}
+use Rattle.std.proofs.Common.{◌≡◌, ℕ, suc, ◌+◌, ◌-◌, ◌≤◌, Bool, true, cond, ltb, List, [], ◌∷◌, ◌++◌, map, length, take, drop, sym, ap, ◌∙◌, subst, arith}
 use Rattle.std.proofs.lemmas.List.{append_assoc, append-nil, length-append, length-map, length-drop, length-take, take-take, drop-take, take-append-le, drop-append-le, take_all, drop_all, map-append}
 use Rattle.std.proofs.lemmas.Bool.{lt-ltb, cond-true}
 use Rattle.terms.specs.declared.Place.{Place}
 use Rattle.terms.specs.Lists.{◌▷◌}
 use Rattle.words.specs.Spelling.{unescaped, name_at}
-use Rattle.words.specs.Tokens.{tokens, named}
-use Rattle.manifest.specs.Building.{names_of}
 use Rattle.manifest.specs.Stored.{Stored}
 
 -- what stands within a first part stands in the whole

@@ -4,7 +4,7 @@ use Rattle.std.specs.Str.{bytes_eq}
 use Rattle.terms.specs.declared.At.{At}
 use Rattle.terms.specs.Lists.{some, is_in, place_from, ◌▷◌}
 use Rattle.words.specs.Lines.{lines_of}
-use Rattle.words.specs.Tokens.{Lexeme, tokens}
+use Rattle.words.specs.Tokens.{tokens}
 use Rattle.manifest.specs.declared.fault.Fault.{Fault}
 use Rattle.manifest.specs.declared.fault.Fault.TheVariants.{NotUnderstood, RuleDeclared, PastLimit, MadeTwice}
 use Rattle.manifest.specs.declared.fault.Owner.{Owner}

@@ -1,5 +1,5 @@
 -- What the words and marks of a line say. Assumes nothing.
-use Rattle.std.specs.Prelude.{ℕ, Bool, true, false, cond, not, ◌&&◌, List, [], ◌∷◌, map, Some, None, Option}
+use Rattle.std.specs.Prelude.{ℕ, Bool, true, false, cond, List, [], ◌∷◌, map, Some, None, Option}
 use Rattle.terms.specs.Lists.{empty}
 use Rattle.words.specs.Runs.{front, beyond}
 use Rattle.words.specs.Tokens.{Lexeme, colon, bar, bars, wrong, named}

@@ -1,5 +1,5 @@
 -- What was read of a manifest so far, and what always holds of it. Assumes nothing.
-use Rattle.std.specs.Prelude.{◌≡◌, ℕ, ◌+◌, ◌*◌, ◌≤◌, List, [], ◌∷◌, map, length, Ok, Err, Result}
+use Rattle.std.specs.Prelude.{ℕ, ◌+◌, ◌*◌, ◌≤◌, List, [], ◌∷◌, map, length, Ok, Err, Result}
 use Rattle.terms.specs.declared.At.{At}
 use Rattle.lists.specs.Grown.{items, room}
 use Rattle.manifest.specs.declared.fault.Fault.{Fault}

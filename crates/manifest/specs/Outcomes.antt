@@ -1,5 +1,5 @@
 -- What reading a manifest gives. Assumes nothing.
-use Rattle.std.specs.Prelude.{ℕ, cond, List, map, Ok, Err, Result, nat_lt}
+use Rattle.std.specs.Prelude.{ℕ, cond, map, Ok, Err, Result, nat_lt}
 use Rattle.terms.specs.declared.At.{At}
 use Rattle.terms.specs.declared.Refusal.{Refusal}
 use Rattle.terms.specs.declared.Refusal.TheVariants as refusal

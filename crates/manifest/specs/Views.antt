@@ -4,7 +4,6 @@ use Rattle.terms.specs.declared.Place.{Place}
 use Rattle.words.specs.Spelling.{name_at}
 use Rattle.manifest.specs.declared.rule.Rule.{Rule}
 use Rattle.manifest.specs.declared.rule.Statement.{Statement}
-use Rattle.manifest.specs.Building.{Inputs}
 use Rattle.manifest.specs.Books.{Declaration, Making}
 
 abbrev pub declaration : List ℕ → Rule → Declaration

@@ -1,4 +1,6 @@
 // Reading manifests.
+#![tactic(auto)]
+
 mod binding;
 mod build;
 mod built;

@@ -1,4 +1,6 @@
 // Tests of the readers on tables of texts: each refusal at its line, each limit at and past its edge, and a manifest as Ninja's generators write them.
+#![tactic(auto)]
+
 #[cfg(test)]
 mod tests {
     use listing::{Row, read_listing};

@@ -2,7 +2,7 @@
 use Rattle.std.specs.Prelude.{◌≡◌, ℕ, ◌+◌, ◌<◌, Bool, true, false, cond, not, ◌&&◌, T, List, [], ◌∷◌, ◌++◌, length, get_or, Some, None, Option, nat_lt, slice_index_or}
 use Rattle.std.specs.Str.{bytes_eq}
 use Rattle.terms.specs.Lists.{some, is_in}
-use Rattle.manifest.specs.Books.{Declaration, Making, Book, is_made}
+use Rattle.manifest.specs.Books.{Making, Book, is_made}
 use Rattle.listing.specs.Rows.{Listed, is_listed}
 use Rattle.planner.specs.declared.letter.Letter.{Letter}
 use Rattle.planner.specs.declared.letter.Letter.TheVariants.{Missing, Lacking, Outdated, Gone, Spoilt, Newer}

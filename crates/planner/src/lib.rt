@@ -1,4 +1,6 @@
 // What makes a statement stale, and what is asked of whoever knows the entries. The definitions stand in specs/; nothing plans yet.
+#![tactic(auto)]
+
 mod entries;
 mod letter;
 

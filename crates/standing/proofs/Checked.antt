@@ -1,5 +1,5 @@
 -- What is known where no check refuses. Assumes nothing.
-use Rattle.std.proofs.Common.{◌≡◌, ℕ, ◌+◌, ◌^◌, ◌<◌, ◌≤◌, Bool, true, false, cond, not, ltb, ◌⊎◌, List, [], ◌∷◌, map, length, Some, None, Err, Option, Result, sym, refl, ap, ◌∙◌, inl, inr, arith}
+use Rattle.std.proofs.Common.{◌≡◌, ℕ, ◌+◌, ◌^◌, ◌<◌, Bool, true, false, not, ltb, ◌⊎◌, List, [], ◌∷◌, map, length, Some, None, Err, Option, Result, sym, refl, inl, inr, arith}
 use Rattle.std.proofs.lemmas.List.{length-map}
 use Rattle.std.proofs.lemmas.Bool.{and_from, ltb-false}
 use Rattle.terms.specs.declared.Place.{Place}
@@ -14,7 +14,7 @@ use Rattle.notes.specs.Wholeness.{Fitting}
 use Rattle.depslog.specs.State.{LogState}
 use Rattle.depslog.specs.Checks.{refuse}
 use Rattle.depslog.specs.Calls.{Judged}
-use Rattle.depslog.specs.Noting.{outside, place_fault, name_fault}
+use Rattle.depslog.specs.Noting.{outside, name_fault}
 use Rattle.depslog.specs.NoteCall.{note_fault}
 
 -- a check refuses, and nothing changes, or none does

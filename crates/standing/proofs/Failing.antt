@@ -5,13 +5,13 @@ use Rattle.medium.specs.State.{Bytes, State, all, settled}
 use Rattle.medium.specs.Failure.{Fell}
 use Rattle.image.specs.Kept.{Kept}
 use Rattle.image.specs.Scans.{has_header, image_of, known, over_limit}
-use Rattle.notes.specs.Notes.{Note, notes_bytes, notes_table}
-use Rattle.notes.specs.Wholeness.{Whole, AllFit, Agree, Tells}
+use Rattle.notes.specs.Notes.{Note, notes_bytes}
+use Rattle.notes.specs.Wholeness.{Whole, AllFit, Agree}
 use Rattle.notes.specs.Laws.{cut_at}
-use Rattle.notes.proofs.Wholes.{image_is, notes_read_back}
+use Rattle.notes.proofs.Wholes.{image_is}
 use Rattle.notes.proofs.Cut.{cut_anywhere}
-use Rattle.depslog.specs.State.{LogState, closed_on, live_of}
-use Rattle.standing.specs.Standing.{OpenWith, ClosedWith, Shortened}
+use Rattle.depslog.specs.State.{closed_on, live_of}
+use Rattle.standing.specs.Standing.{ClosedWith, Shortened}
 
 -- a closed log whose live bytes are settled
 pub closed_on_lem : (notes : List Note) (live : List ℕ) (n : State) → n.live ≡ settled live → has_header (image_of live) ≡ true → over_limit live ≡ None → Kept (known live) → Agree notes (known live) →

@@ -1,13 +1,13 @@
 -- How each call moves the notes that a log stands for. Assumes nothing.
-use Rattle.std.proofs.Common.{◌≡◌, ℕ, ◌^◌, ◌<◌, Bool, true, false, cond, ◌⊎◌, List, [], ◌∷◌, ◌++◌, length, take, Some, None, Ok, Err, Option, Result, sym, refl, ap, ◌∙◌, subst, inl, inr, arith}
+use Rattle.std.proofs.Common.{◌≡◌, ℕ, ◌^◌, ◌<◌, Bool, true, cond, ◌⊎◌, List, [], ◌∷◌, ◌++◌, length, Some, None, Ok, Err, Option, Result, sym, refl, ap, ◌∙◌, subst, inl, inr, arith}
 use Rattle.std.proofs.lemmas.List.{append-nil, append_assoc, take_all}
-use Rattle.std.proofs.lemmas.Bool.{cases_Bool, true≢false, false≢true}
+use Rattle.std.proofs.lemmas.Bool.{cases_Bool, true≢false}
 use Rattle.terms.specs.declared.Place.{Place}
 use Rattle.terms.specs.declared.Refusal.{Refusal}
 use Rattle.terms.specs.declared.Refusal.TheVariants.{PowerOff, Full}
 use Rattle.terms.specs.Lists.{◌▷◌}
 use Rattle.medium.specs.declared.Fault.TheVariants.{Off}
-use Rattle.medium.specs.State.{Bytes, State, all, settled, more, with_appended, with_synced}
+use Rattle.medium.specs.State.{Bytes, State, settled, more}
 use Rattle.medium.specs.Failure.{Fell}
 use Rattle.medium.specs.Calls.{Synced}
 use Rattle.image.specs.Tables.{Table}
@@ -19,19 +19,19 @@ use Rattle.notes.specs.Compacting.{compact_bytes, compact_table}
 use Rattle.notes.specs.Wholeness.{Whole, Fitting, AllFit, Agree, Tells}
 use Rattle.notes.specs.Laws.{Compacts}
 use Rattle.notes.proofs.Lengths.{note_adds}
-use Rattle.notes.proofs.Wholes.{notes_read_back, noting_keeps}
+use Rattle.notes.proofs.Wholes.{notes_read_back}
 use Rattle.notes.proofs.LatestNoted.{agree_goes_on}
 use Rattle.notes.proofs.Compacted.{compaction}
 use Rattle.rewriting.specs.Replacing.{Replaced}
 use Rattle.depslog.specs.State.{LogState, open_on, closed_on, live_of}
 use Rattle.depslog.specs.Appending.{AppendedAll}
 use Rattle.depslog.specs.Checks.{refuse, sync_fault}
-use Rattle.depslog.specs.Calls.{Judged, Doing, Ended, SyncedLog, FailedLog}
+use Rattle.depslog.specs.Calls.{Doing, Ended, SyncedLog, FailedLog}
 use Rattle.depslog.specs.NoteCall.{note_fault, no_room, NewlyNoted, NotedLog}
 use Rattle.depslog.specs.Recompacting.{recompact_fault, RecompactedLog}
 use Rattle.standing.specs.Standing.{OpenWith, ClosedWith, Shortened}
 use Rattle.standing.proofs.Failing.{closed_on_lem, closed-whole, fell-noted, fell-settled}
-use Rattle.standing.proofs.Checked.{Refused, judged, note_fits}
+use Rattle.standing.proofs.Checked.{judged, note_fits}
 
 -- an open log all of whose live bytes are durable
 pub open-settled : (notes : List Note) (live : List ℕ) (t : Table) (m : State) → m.power ≡ true → m.live ≡ settled live → Tells live t → Agree notes t → OpenWith notes [] (open_on t m)

@@ -1,14 +1,13 @@
 -- What an open does to the notes that a log stands for. Assumes nothing.
-use Rattle.std.proofs.Common.{◌≡◌, ℕ, Bool, true, false, cond, not, ◌&&◌, ltb, ◌⊎◌, List, [], length, Some, None, Ok, Err, Option, Result, sym, refl, ap, ◌∙◌, subst, inl, inr, arith}
+use Rattle.std.proofs.Common.{◌≡◌, ℕ, Bool, true, false, cond, not, ◌&&◌, ltb, List, [], length, Some, None, Ok, Err, Option, Result, sym, refl, ap, ◌∙◌, subst, inl, inr, arith}
 use Rattle.std.specs.Str.{bytes_eq}
 use Rattle.std.proofs.lemmas.Bool.{cases_Bool, true≢false}
 use Rattle.terms.specs.declared.Refusal.{Refusal}
-use Rattle.terms.specs.declared.Refusal.TheVariants.{PowerOff, PowerLost, AlreadyOpen, CopyShort, NoHeader, OverLimit, Full}
-use Rattle.medium.specs.declared.Fault.{Fault}
+use Rattle.terms.specs.declared.Refusal.TheVariants.{PowerOff, PowerLost, CopyShort, NoHeader, OverLimit, Full}
 use Rattle.medium.specs.declared.Fault.TheVariants.{Off}
-use Rattle.medium.specs.State.{Bytes, State, settled, with_power}
+use Rattle.medium.specs.State.{State, settled, with_power}
 use Rattle.medium.specs.Calls.{Synced}
-use Rattle.image.specs.Scans.{has_header, image_of, known, good_bytes, over_limit}
+use Rattle.image.specs.Scans.{known, good_bytes, over_limit}
 use Rattle.notes.specs.Notes.{Note}
 use Rattle.notes.specs.Wholeness.{Agree, Tells}
 use Rattle.notes.proofs.Places.{same-is}
@@ -17,11 +16,11 @@ use Rattle.rewriting.specs.Replacing.{Replaced}
 use Rattle.depslog.specs.declared.opened.Opened.{Opened}
 use Rattle.depslog.specs.State.{LogState, open_on, closed_on, with_medium, live_of}
 use Rattle.depslog.specs.Checks.{refuse, over_fault, mends, open_fault}
-use Rattle.depslog.specs.Calls.{Doing, Ended, Mended, opened_of, OpenLit, OpenedLog, already, dark, lit}
+use Rattle.depslog.specs.Calls.{Ended, Mended, opened_of, OpenLit, OpenedLog, already, dark, lit}
 use Rattle.standing.specs.Standing.{OpenWith, ClosedWith}
 use Rattle.standing.proofs.Failing.{closed-whole, fell-settled}
 use Rattle.standing.proofs.Checked.{judged}
-use Rattle.standing.proofs.Moves.{open-settled, ended, closed_same, closed-fell}
+use Rattle.standing.proofs.Moves.{open-settled, ended, closed-fell}
 
 -- what an open of a closed log may do: it is refused and stands for the same notes, which a failure leaves too, or all of them are firm
 pub data OpenMove (notes : List Note) (r : Result Opened Refusal) (t : LogState) : Type 0 where

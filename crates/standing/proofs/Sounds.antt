@@ -1,11 +1,11 @@
 -- Every call keeps a log sound. Assumes nothing.
-use Rattle.std.proofs.Common.{◌≡◌, ℕ, Bool, true, false, cond, ◌⊎◌, List, [], ◌++◌, take, Some, None, Ok, Err, Option, Result, sym, refl, ap, ◌∙◌, subst, inl, inr, arith}
+use Rattle.std.proofs.Common.{◌≡◌, ℕ, Bool, List, [], ◌++◌, take, Some, Err, Option, Result, sym, refl, ap, ◌∙◌, subst, inl, inr, arith}
 use Rattle.std.proofs.lemmas.Bool.{true≢false}
 use Rattle.terms.specs.declared.Refusal.{Refusal}
-use Rattle.terms.specs.declared.Refusal.TheVariants.{NoHeader, OverLimit, AlreadyOpen, Closed, PowerOff}
+use Rattle.terms.specs.declared.Refusal.TheVariants.{NoHeader, OverLimit, AlreadyOpen, Closed}
 use Rattle.terms.specs.Lists.{◌▷◌}
 use Rattle.image.specs.Scans.{known}
-use Rattle.notes.specs.Notes.{Note, unchanged}
+use Rattle.notes.specs.Notes.{Note}
 use Rattle.notes.specs.Meant.{meant}
 use Rattle.notes.specs.Compacting.{entries_of}
 use Rattle.notes.proofs.LatestNoted.{entries-noted}
@@ -15,7 +15,7 @@ use Rattle.depslog.specs.Checks.{sync_fault}
 use Rattle.depslog.specs.Calls.{Judged, OpenedLog, already, dark, lit}
 use Rattle.depslog.specs.NoteCall.{note_fault}
 use Rattle.depslog.specs.Recompacting.{recompact_fault}
-use Rattle.standing.specs.Standing.{OpenWith, ClosedWith, Shortened, Sound}
+use Rattle.standing.specs.Standing.{OpenWith, Shortened, Sound}
 use Rattle.standing.specs.Laws.{NewIsSound, CallsKeepSound, SoundTells, SoundOpens}
 use Rattle.standing.proofs.Checked.{judged}
 use Rattle.standing.proofs.Moves.{open-tells, synced_moves, noted_moves, recompacted_moves, failed_moves, failed-stays}

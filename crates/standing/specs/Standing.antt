@@ -1,6 +1,5 @@
 -- The notes that a log stands for. Assumes nothing.
 use Rattle.std.specs.Prelude.{◌≡◌, ℕ, ◌≤◌, true, false, ◌⊎◌, List, [], ◌++◌, length, take, None}
-use Rattle.medium.specs.State.{State}
 use Rattle.image.specs.Kept.{Kept}
 use Rattle.image.specs.Scans.{has_header, image_of, known, over_limit}
 use Rattle.notes.specs.Notes.{Note, notes_bytes, notes_table}

@@ -1,12 +1,12 @@
 -- The tokens of a line, one by one. Assumes nothing.
-use Rattle.std.proofs.Common.{◌≡◌, ℕ, zero, suc, ◌+◌, ◌-◌, ◌<◌, ◌≤◌, Bool, true, false, cond, not, ◌||◌, eqb, List, [], ◌∷◌, ◌++◌, length, get_or, take, drop, Some, None, Option, sym, refl, ap, ◌∙◌, subst, inl, inr, arith}
+use Rattle.std.proofs.Common.{◌≡◌, ℕ, zero, suc, ◌+◌, ◌-◌, ◌<◌, ◌≤◌, Bool, true, false, cond, eqb, List, [], ◌∷◌, ◌++◌, length, get_or, drop, Some, None, Option, sym, refl, ap, ◌∙◌, subst, inl, inr, arith}
 use Rattle.std.specs.Option.{option_map}
 use Rattle.std.proofs.lemmas.List.{drop_more, drop_all, drop-drop, length-drop}
 use Rattle.std.proofs.lemmas.Bool.{cases_Bool, cond-true, cond-false, or_from, eq-eqb, ne_eqb}
 use Rattle.words.specs.declared.class.Class.TheVariants.{Space}
 use Rattle.words.specs.Runs.{is_of, front, beyond}
-use Rattle.words.specs.Spelling.{ends, Spelled, nothing, further, spelling, word, unescaped, name_at}
-use Rattle.words.specs.Tokens.{Lexeme, colon, bar, bars, wrong, named, word_begun, bar_begun, struck, begun, tokens_past, tokens, front_token}
+use Rattle.words.specs.Spelling.{ends, Spelled, nothing, further, spelling, word, name_at}
+use Rattle.words.specs.Tokens.{Lexeme, colon, bar, bars, wrong, named, word_begun, bar_begun, struck, tokens_past, tokens, front_token}
 use Rattle.words.proofs.Spans.{drop_run}
 use Rattle.words.proofs.Spells.{Spells, spells}
 use Rattle.words.specs.Steps.{word_of}

@@ -1,5 +1,5 @@
 -- What one step along a word says of it. Assumes nothing.
-use Rattle.std.specs.Prelude.{◌≡◌, ℕ, ◌+◌, ◌<◌, ◌≤◌, List, length, drop, Some, None, Option}
+use Rattle.std.specs.Prelude.{ℕ, ◌+◌, ◌<◌, ◌≤◌, List, length, drop, Some, None, Option}
 use Rattle.words.specs.declared.spelling.Step.{Step}
 use Rattle.words.specs.declared.spelling.Step.TheVariants.{End, Wrong, On}
 use Rattle.words.specs.declared.spelling.Word.{Word}

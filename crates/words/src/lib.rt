@@ -1,4 +1,6 @@
 // The words and marks of a line, and names as keys, however they are spelled.
+#![tactic(auto)]
+
 mod class;
 mod path;
 mod paths;

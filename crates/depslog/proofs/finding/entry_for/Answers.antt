@@ -1,4 +1,4 @@
-use Rattle.std.proofs.Common.{◌≡◌, ℕ, ◌+◌, ◌<◌, true, List, [], ◌++◌, length, get_or, take, sym, refl, ap, ◌∙◌, arith}
+use Rattle.std.proofs.Common.{◌≡◌, ℕ, ◌<◌, true, List, ◌++◌, length, get_or, take, sym, ap, ◌∙◌, arith}
 use Rattle.std.proofs.lemmas.List.{length-take-le, take_all}
 use Rattle.std.proofs.lemmas.Bool.{lt-ltb, cond-true}
 use Rattle.terms.specs.declared.Place.{Place}
@@ -23,13 +23,13 @@ loop-place-preserved c =
     let h : k < length inputs = c.loop-place-test.true in
     let i : was.inputs ≡ ids_of names bytes (take k inputs) = ap (λ (e : Entry). e.inputs) c.loop-place.invariant in
     let l : length was.inputs ≡ k = ap length i ∙ ids-long names bytes (take k inputs) ∙ length-take-le k inputs (omega (arith, h)) in
-    let more : Entry = record { mtime = was.mtime; inputs = was.inputs ▷ c.id-in.result } in
+    let more : Entry = record { mtime = was.mtime; inputs = was.inputs ▷ c.id_in.result } in
     let room : c.push.result ≡ true = c.push.ensures.room ∙ lt-ltb (length was.inputs) 64 (omega (arith, l, h, c.requires)) in
-    let id : c.id-in.result ≡ id_in names (cut bytes (get_or inputs k none)) = c.id-in.ensures.value ∙ ap (id_in names) c.part.ensures in
+    let id : c.id_in.result ≡ id_in names (cut bytes (get_or inputs k none)) = c.id_in.ensures.value ∙ ap (id_in names) c.part.ensures in
     let F : ℕ → List ℕ → Entry = λ m xs. record { mtime = m; inputs = xs } in
     c.push.ensures.after ∙ cond-true c.push.result more was room ∙
-    ap (λ (m : ℕ). F m (was.inputs ▷ c.id-in.result)) (ap (λ (e : Entry). e.mtime) c.loop-place.invariant) ∙
-    ap (λ (xs : List ℕ). F c.args.mtime (xs ▷ c.id-in.result)) i ∙
+    ap (λ (m : ℕ). F m (was.inputs ▷ c.id_in.result)) (ap (λ (e : Entry). e.mtime) c.loop-place.invariant) ∙
+    ap (λ (xs : List ℕ). F c.args.mtime (xs ▷ c.id_in.result)) i ∙
     ap (λ (x : ℕ). F c.args.mtime (ids_of names bytes (take k inputs) ▷ x)) id ∙
     ap (F c.args.mtime) (sym (ids_more names bytes inputs k none h))
 

@@ -1,4 +1,4 @@
-use Rattle.std.proofs.Common.{◌≡◌, ◌+◌, ◌≤◌, ◌∷◌, ◌++◌, map, length, drop}
+use Rattle.std.proofs.Common.{◌≡◌, ◌+◌, ◌≤◌, ◌++◌, map, drop}
 use Rattle.image.specs.Learning.{view}
 use Rattle.notes.specs.Notes.{new_names}
 use Rattle.notes.specs.Meant.{cut}

@@ -1,4 +1,4 @@
-use Rattle.std.proofs.Common.{◌≡◌, ℕ, ◌+◌, ◌<◌, length, sym, ap, ◌∙◌, arith}
+use Rattle.std.proofs.Common.{ℕ, ◌+◌, ap, ◌∙◌, arith}
 use Rattle.image.specs.Learning.{view}
 use Rattle.image.proofs.Learned.{view-kept}
 use Rattle.depslog.specs.FreshNames.{fresh_names}
@@ -10,25 +10,25 @@ returns-in-Some c =
     let q = id_known c.args.name.now (view c.args.table.now).names (fresh_names c.args.bytes.now c.args.fresh.now) c.in-Some.id c.in-Some.ensures in
     record { value = q.0; small = omega (arith, q.1, (view-kept c.args.table.now).few) }
 
-pub overflow-add-result : goal.overflow-add-result
-overflow-add-result c =
+pub overflow_add-result : goal.overflow_add-result
+overflow_add-result c =
     let f = c.args.fresh.now in
     let bytes = c.args.bytes.now in
-    let q = id_new c.args.name.now (view c.args.table.now).names (fresh_names bytes f) c.in-Some-place-of.k c.in-default.ensures c.in-Some-place-of.ensures in
-    omega (arith, q.1, fresh_long bytes f, f.few, c.path-count.ensures.count, (view-kept c.args.table.now).few)
+    let q = id_new c.args.name.now (view c.args.table.now).names (fresh_names bytes f) c.in-Some-place_of.k c.in_default.ensures c.in-Some-place_of.ensures in
+    omega (arith, q.1, fresh_long bytes f, f.few, c.path_count.ensures.count, (view-kept c.args.table.now).few)
 
-pub returns-in-Some-place-of : goal.returns-in-Some-place-of
-returns-in-Some-place-of c =
+pub returns-in-Some-place_of : goal.returns-in-Some-place_of
+returns-in-Some-place_of c =
     let f = c.args.fresh.now in
     let bytes = c.args.bytes.now in
-    let q = id_new c.args.name.now (view c.args.table.now).names (fresh_names bytes f) c.in-Some-place-of.k c.in-default.ensures c.in-Some-place-of.ensures in
+    let q = id_new c.args.name.now (view c.args.table.now).names (fresh_names bytes f) c.in-Some-place_of.k c.in_default.ensures c.in-Some-place_of.ensures in
     record {
-      value = ap (λ (n : ℕ). n + c.in-Some-place-of.k) c.path-count.ensures.count ∙ q.0;
-      small = omega (arith, q.1, fresh_long bytes f, f.few, c.path-count.ensures.count, (view-kept c.args.table.now).few);
+      value = ap (λ (n : ℕ). n + c.in-Some-place_of.k) c.path_count.ensures.count ∙ q.0;
+      small = omega (arith, q.1, fresh_long bytes f, f.few, c.path_count.ensures.count, (view-kept c.args.table.now).few);
     }
 
 pub returns-in-None : goal.returns-in-None
 returns-in-None c = record {
-  value = id_none c.args.name.now (view c.args.table.now).names (fresh_names c.args.bytes.now c.args.fresh.now) c.in-default.ensures c.in-None.ensures;
+  value = id_none c.args.name.now (view c.args.table.now).names (fresh_names c.args.bytes.now c.args.fresh.now) c.in_default.ensures c.in-None.ensures;
   small = omega arith;
 }

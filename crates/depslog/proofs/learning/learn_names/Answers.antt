@@ -1,4 +1,4 @@
-use Rattle.std.proofs.Common.{◌≡◌, ℕ, ◌+◌, ◌<◌, Bool, true, List, [], ◌∷◌, map, length, get_or, drop, sym, refl, ap, ◌∙◌, subst, arith}
+use Rattle.std.proofs.Common.{◌≡◌, ℕ, ◌+◌, ◌<◌, Bool, List, [], ◌∷◌, map, length, get_or, drop, sym, ap, ◌∙◌, subst, arith}
 use Rattle.std.proofs.lemmas.List.{drop_more, at_drop_all}
 use Rattle.terms.specs.declared.Place.{Place}
 use Rattle.image.specs.Bytes.{path}
@@ -28,8 +28,8 @@ loop-k-preserved c =
     let rest : List (List ℕ) = drop (k + 1) ns in
     let d : drop k ns ≡ n ∷ rest = drop_more ns k [] h in
     let w : AllWritable t (map path (n ∷ rest)) = subst (λ (xs : List (List ℕ)). AllWritable t (map path xs)) d c.loop-k.invariant.0 in
-    let e : view c.learn-path.new.self ≡ learn t (path n) =
-    learned t n c.part.result.now rest c.learn-path.result (view c.learn-path.new.self) (c.part.ensures ∙ sym (fresh_at bytes f k none c.loop-k-test.true)) w c.learn-path.ensures in (
+    let e : view c.learn_path.new.self ≡ learn t (path n) =
+    learned t n c.part.result.now rest c.learn_path.result (view c.learn_path.new.self) (c.part.ensures ∙ sym (fresh_at bytes f k none c.loop-k-test.true)) w c.learn_path.ensures in (
       subst (λ (u : Table). AllWritable u (map path rest)) (sym e) w.1,
       ap (λ (u : Table). learn_all u (map path rest)) e ∙ ap (λ (xs : List (List ℕ)). learn_all t (map path xs)) (sym d) ∙ c.loop-k.invariant.1,
     )

@@ -3,27 +3,27 @@ use Rattle.std.proofs.lemmas.Bool.{eqb-true, eqb-false}
 use Rattle.depslog.proofs.Opens.{synced-off, mended-empty, mended-short, mended-not}
 use Rattle.depslog.proofs.opening.mend.Goals as goal
 
-pub returns-then-is-empty : goal.returns-then-is-empty
-returns-then-is-empty g c =
+pub returns-then-is_empty : goal.returns-then-is_empty
+returns-then-is_empty g c =
     let live = c.args.live.now in
-    mended-empty live (g.M.Medium.state c.args.medium.now) c.put-in-place.result (g.M.Medium.state c.put-in-place.new.medium) (eqb-true (length live) 0 (sym c.if-is-empty.ensures)) c.put-in-place.ensures
+    mended-empty live (g.M.Medium.state c.args.medium.now) c.put_in_place.result (g.M.Medium.state c.put_in_place.new.medium) (eqb-true (length live) 0 (sym c.if-is_empty.ensures)) c.put_in_place.ensures
 
 pub returns-then-good-live : goal.returns-then-good-live
 returns-then-good-live g c =
     let live = c.args.live.now in
-    let some : 0 < length live = omega (arith, eqb-false (length live) 0 (sym c.if-is-empty.ensures)) in
-    mended-short live c.args.good _ c.put-in-place-then-good-live.result _ some c.requires c.if-good-live.true c.put-in-place-then-good-live.ensures
+    let some : 0 < length live = omega (arith, eqb-false (length live) 0 (sym c.if-is_empty.ensures)) in
+    mended-short live c.args.good _ c.put_in_place-then-good-live.result _ some c.requires c.if-good-live.true c.put_in_place-then-good-live.ensures
 
 pub returns-in-Ok : goal.returns-in-Ok
 returns-in-Ok g c =
     let live = c.args.live.now in
-    let some : 0 < length live = omega (arith, eqb-false (length live) 0 (sym c.if-is-empty.ensures)) in
+    let some : 0 < length live = omega (arith, eqb-false (length live) 0 (sym c.if-is_empty.ensures)) in
     mended-not live c.args.good _ _ _ some c.requires c.if-good-live.false (inl (refl, c.in-Ok.ensures))
 
 pub returns-in-Err : goal.returns-in-Err
 returns-in-Err g c =
     let st = g.M.Medium.state in
     let live = c.args.live.now in
-    let some : 0 < length live = omega (arith, eqb-false (length live) 0 (sym c.if-is-empty.ensures)) in
+    let some : 0 < length live = omega (arith, eqb-false (length live) 0 (sym c.if-is_empty.ensures)) in
     let off = synced-off (st c.args.medium.now) (st c.sync.new.self) c.in-Err.field-0 c.in-Err.ensures in
     mended-not live c.args.good _ _ _ some c.requires c.if-good-live.false (inr (refl, off))

@@ -1,4 +1,4 @@
-use Rattle.std.proofs.Common.{◌≡◌, ℕ, ◌<◌, ◌≤◌, Bool, true, false, List, map, length, take, drop, is_some, Ok, Result, sym, refl, ap, ◌∙◌, arith}
+use Rattle.std.proofs.Common.{◌≡◌, ℕ, ◌<◌, Bool, List, map, length, is_some, Ok, Result, sym, refl, ap, ◌∙◌, arith}
 use Rattle.std.specs.Str.{bytes_eq}
 use Rattle.std.proofs.lemmas.List.{length-map, map_push}
 use Rattle.terms.specs.Lists.{place_from}
@@ -7,30 +7,30 @@ use Rattle.lists.specs.Words.{placed}
 use Rattle.lists.proofs.Finds.{place-some, some-map}
 use Rattle.listing.specs.declared.fault.ListingFault.{ListingFault}
 use Rattle.listing.specs.declared.row.Row.{Row}
-use Rattle.listing.specs.Rows.{Listed, is_listed, row_of}
+use Rattle.listing.specs.Rows.{Listed, is_listed}
 use Rattle.listing.specs.Shown.{listed}
 use Rattle.listing.proofs.Said.{listed-before, rows_many, row_new, pushed}
 use Rattle.listing.proofs.read.add_row.Goals as goal
-use Rattle.listing.proofs.read.add_row.Goals.{After-is-some}
+use Rattle.listing.proofs.read.add_row.Goals.{After-is_some}
 
 -- whether the name was listed before
-known : (c : After-is-some) → is_listed (map (listed c.args.text.now) (items c.args.rows.now)) (placed c.args.text.now c.in-Some.row.name) ≡ c.is-some.result
+known : (c : After-is_some) → is_listed (map (listed c.args.text.now) (items c.args.rows.now)) (placed c.args.text.now c.in-Some.row.name) ≡ c.is_some.result
 known c =
     let text = c.args.text.now in
     let P : List ℕ → Row → Bool = λ n x. bytes_eq n (placed text x.name) in
     some-map (listed text) (λ r. bytes_eq (placed text c.in-Some.row.name) r.name) (items c.args.rows.now) ∙
     sym (place-some 0 (P (placed text c.in-Some.row.name)) (items c.args.rows.now)) ∙
-    ap (λ (n : List ℕ). is_some (place_from 0 (P n) (items c.args.rows.now))) (sym c.bytes-at.ensures) ∙
-    ap (λ (xs : List Row). is_some (place_from 0 (P c.bytes-at.result.now) xs)) (sym c.as-slice.ensures) ∙
-    ap is_some (sym c.first.ensures.place) ∙ sym c.is-some.ensures
+    ap (λ (n : List ℕ). is_some (place_from 0 (P n) (items c.args.rows.now))) (sym c.bytes_at.ensures) ∙
+    ap (λ (xs : List Row). is_some (place_from 0 (P c.bytes_at.result.now) xs)) (sym c.as_slice.ensures) ∙
+    ap is_some (sym c.first.ensures.place) ∙ sym c.is_some.ensures
 
-pub returns-then-is-some : goal.returns-then-is-some
-returns-then-is-some c = record { room = refl; said = listed-before _ _ (listed c.args.text.now c.in-Some.row) c.in-Some.ensures (known (goal.at.returns-then-is-some c).After-is-some ∙ c.if-is-some.true) }
+pub returns-then-is_some : goal.returns-then-is_some
+returns-then-is_some c = record { room = refl; said = listed-before _ _ (listed c.args.text.now c.in-Some.row) c.in-Some.ensures (known (goal.at.returns-then-is_some c).After-is_some ∙ c.if-is_some.true) }
 
 pub returns-then-len-ge-ROWS : goal.returns-then-len-ge-ROWS
 returns-then-len-ge-ROWS c = record {
   room = refl;
-  said = rows_many (map (listed c.args.text.now) (items c.args.rows.now)) _ (listed c.args.text.now c.in-Some.row) c.in-Some.ensures (known (goal.at.returns-then-len-ge-ROWS c).After-is-some ∙ c.if-is-some.false)
+  said = rows_many (map (listed c.args.text.now) (items c.args.rows.now)) _ (listed c.args.text.now c.in-Some.row) c.in-Some.ensures (known (goal.at.returns-then-len-ge-ROWS c).After-is_some ∙ c.if-is_some.false)
       (omega (arith, c.if-len-ge-ROWS.true, c.len.ensures.count, length-map (items c.args.rows.now) (listed c.args.text.now)));
 }
 
@@ -45,6 +45,6 @@ returns c =
     record {
       room = c.push.ensures.room;
       said = ap F (ap (map (listed text)) e ∙ map_push (listed text) xs r) ∙
-          row_new (map (listed text) xs) _ (listed text r) c.in-Some.ensures (known (goal.at.returns c).After-is-some ∙ c.if-is-some.false)
+          row_new (map (listed text) xs) _ (listed text r) c.in-Some.ensures (known (goal.at.returns c).After-is_some ∙ c.if-is_some.false)
           (omega (arith, c.if-len-ge-ROWS.false, c.len.ensures.count, length-map xs (listed text)));
     }

@@ -1,47 +1,47 @@
-use Rattle.std.proofs.Common.{◌≡◌, drop, Some, None, sym, ap, ◌∙◌, subst, arith}
+use Rattle.std.proofs.Common.{◌≡◌, drop, sym, ap, ◌∙◌, subst, arith}
 use Rattle.words.specs.Shown.{Counted}
 use Rattle.words.specs.Tokens.{tokens}
 use Rattle.manifest.specs.Building.{inputs_of, with_inputs, with_rule, build_of}
-use Rattle.manifest.specs.Groups.{word_name, inputs_shown, group_names}
-use Rattle.manifest.proofs.Marks.{token-is, word_first, is_mark, no_outputs, no_colon, past-colon, no_rule, build_as, some_words, no_words}
+use Rattle.manifest.specs.Groups.{word_name, group_names}
+use Rattle.manifest.proofs.Marks.{token-is, word_first, is_mark, past-colon, no_rule, build_as, some_words}
 use Rattle.manifest.proofs.build.build_at.Goals as goal
 use Rattle.manifest.proofs.build.build_at.Goals.{In-Word}
 
-pub returns-in-default-token : goal.returns-in-default-token
-returns-in-default-token c =
+pub returns-in_default-token : goal.returns-in_default-token
+returns-in_default-token c =
     let xs = c.args.bytes.now in
-    let g = c.group-at-outputs.result in
-    let e = c.group-at-outputs.ensures in
-    let t = c.next-token-token.result in
-    let f = c.next-token-token.ensures in
+    let g = c.group_at-outputs.result in
+    let e = c.group_at-outputs.ensures in
+    let t = c.next_token-token.result in
+    let f = c.next_token-token.ensures in
     record {
-      said = no_rule xs t.1 (group_names xs g) t.0 (is_mark t.0 c.in-default-token.not-Word) ∙ ap (with_rule (group_names xs g)) (sym (token-is xs g.next t.1 t.0 f.token f.next)) ∙
+      said = no_rule xs t.1 (group_names xs g) t.0 (is_mark t.0 c.in_default-token.not-Word) ∙ ap (with_rule (group_names xs g)) (sym (token-is xs g.next t.1 t.0 f.token f.next)) ∙
           sym (build_as xs c.args.at g e ∙ past-colon xs g.next (group_names xs g) g.mark c.in-Colon.is (some_words xs g e.sums (λ z. omega (arith, c.if-outputs-lt-LEAST.false))));
       sums = tt;
     }
 
 -- with outputs, a colon and the rule's name, what is left are the inputs
-said : (c : In-Word) → build_of (tokens (drop c.args.at c.args.bytes.now)) ≡ with_inputs (group_names c.args.bytes.now c.group-at-outputs.result) (word_name c.args.bytes.now c.in-Word.rule) (inputs_of (tokens (drop c.next-token-token.result.1 c.args.bytes.now)))
+said : (c : In-Word) → build_of (tokens (drop c.args.at c.args.bytes.now)) ≡ with_inputs (group_names c.args.bytes.now c.group_at-outputs.result) (word_name c.args.bytes.now c.in-Word.rule) (inputs_of (tokens (drop c.next_token-token.result.1 c.args.bytes.now)))
 said c =
     let xs = c.args.bytes.now in
-    let g = c.group-at-outputs.result in
-    let e = c.group-at-outputs.ensures in
-    let t = c.next-token-token.result in
-    let f = c.next-token-token.ensures in
+    let g = c.group_at-outputs.result in
+    let e = c.group_at-outputs.ensures in
+    let t = c.next_token-token.result in
+    let f = c.next_token-token.ensures in
     build_as xs c.args.at g e ∙ past-colon xs g.next (group_names xs g) g.mark c.in-Colon.is (some_words xs g e.sums (λ z. omega (arith, c.if-outputs-lt-LEAST.false))) ∙
     ap (with_rule (group_names xs g)) (word_first xs g.next t.1 t.0 c.in-Word.rule f.token f.next c.in-Word.is)
 
 pub returns-in-Some : goal.returns-in-Some
 returns-in-Some c =
     let xs = c.args.bytes.now in
-    let g = c.group-at-outputs.result in
-    let k = subst (λ v. Counted xs g.next v c.next-token-token.result.1) c.in-Word.is c.next-token-token.ensures.counted in
+    let g = c.group_at-outputs.result in
+    let k = subst (λ v. Counted xs g.next v c.next_token-token.result.1) c.in-Word.is c.next_token-token.ensures.counted in
     record {
       said = ap (with_inputs (group_names xs g) (word_name xs c.in-Word.rule)) c.in-Some.ensures.said ∙ sym (said (goal.at.returns-in-Some c).In-Word);
-      sums = (c.group-at-outputs.ensures.sums, c.in-Some.ensures.sums, (k.0, omega (arith, k.1, k.3)));
+      sums = (c.group_at-outputs.ensures.sums, c.in-Some.ensures.sums, (k.0, omega (arith, k.1, k.3)));
     }
 
 pub returns-in-None : goal.returns-in-None
 returns-in-None c =
     let xs = c.args.bytes.now in
-    record { said = ap (with_inputs (group_names xs c.group-at-outputs.result) (word_name xs c.in-Word.rule)) c.in-None.ensures.said ∙ sym (said (goal.at.returns-in-None c).In-Word); sums = tt }
+    record { said = ap (with_inputs (group_names xs c.group_at-outputs.result) (word_name xs c.in-Word.rule)) c.in-None.ensures.said ∙ sym (said (goal.at.returns-in-None c).In-Word); sums = tt }

@@ -1,4 +1,4 @@
-use Rattle.std.proofs.Common.{◌<◌, codes, sym, ◌∙◌, arith, rules}
+use Rattle.std.proofs.Common.{codes, sym, arith, rules}
 use Rattle.manifest.proofs.Lines.{begins-within}
 use Rattle.manifest.proofs.line.kind_at.Goals as goal
 

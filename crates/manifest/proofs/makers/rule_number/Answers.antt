@@ -1,4 +1,4 @@
-use Rattle.std.proofs.Common.{◌≡◌, Bool, sym, ◌∙◌}
+use Rattle.std.proofs.Common.{Bool, sym, ◌∙◌}
 use Rattle.std.specs.Str.{bytes_eq}
 use Rattle.lists.proofs.Finds.{place_map}
 use Rattle.words.specs.Paths.{path_name}

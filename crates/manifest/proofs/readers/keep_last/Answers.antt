@@ -1,4 +1,4 @@
-use Rattle.std.proofs.Common.{◌≡◌, ℕ, ◌-◌, true, false, List, map, get_or, set, sym, refl, ap, ◌∙◌}
+use Rattle.std.proofs.Common.{◌-◌, true, false, List, map, get_or, set, sym, refl, ap, ◌∙◌}
 use Rattle.lists.specs.Grown.{items}
 use Rattle.manifest.specs.declared.rule.Rule.{Rule}
 use Rattle.manifest.specs.Views.{declaration}
@@ -15,7 +15,7 @@ returns c =
     let n = c.len-count.result in
     record {
       kept = λ text.
-          ap (map (declaration text)) (c.put.ensures.items ∙ ap (λ (rs : List Rule). set xs (n - 1) (record { name = (get_or rs (n - 1) d).name; keeps = true })) c.as-slice-held.ensures) ∙
+          ap (map (declaration text)) (c.put.ensures.items ∙ ap (λ (rs : List Rule). set xs (n - 1) (record { name = (get_or rs (n - 1) d).name; keeps = true })) c.as_slice-held.ensures) ∙
           kept-last text xs n d c.len-count.ensures.count c.if-count-eq0.false;
       room = c.put.ensures.room;
     }

@@ -1,8 +1,8 @@
-use Rattle.std.proofs.Common.{◌≡◌, ℕ, ◌+◌, ◌≤◌, List, ◌∷◌, length, take, drop, sym, refl, ap, ◌∙◌, subst, arith}
+use Rattle.std.proofs.Common.{◌≡◌, ℕ, List, ◌∷◌, take, drop, sym, refl, ap, ◌∙◌, subst, arith}
 use Rattle.lists.specs.Grown.{items, room}
-use Rattle.words.specs.Shown.{shown, Counted}
+use Rattle.words.specs.Shown.{Counted}
 use Rattle.words.specs.Spelling.{name_at}
-use Rattle.words.specs.Tokens.{tokens, front_token, named}
+use Rattle.words.specs.Tokens.{tokens, named}
 use Rattle.words.specs.declared.token.Token.{Token}
 use Rattle.words.specs.declared.token.Token.TheVariants as token
 use Rattle.manifest.specs.Building.{names_of}
@@ -18,8 +18,8 @@ words-preserved c =
     let text = c.args.text.now in
     let W = take c.args.end text in
     let here = c.words.here in
-    let t = c.next-token-token.result in
-    let e = c.next-token-token.ensures in
+    let t = c.next_token-token.result in
+    let e = c.next_token-token.ensures in
     let w = c.in-Word.word in
     let old = items c.args.words.now in
     let all = names_of (tokens (drop c.args.at W)) in
@@ -31,12 +31,12 @@ words-preserved c =
       c.push.ensures.room ∙ c.words.invariant.1,
     )
 
-pub returns-in-default : goal.returns-in-default
-returns-in-default c =
+pub returns-in_default : goal.returns-in_default
+returns-in_default c =
     let text = c.args.text.now in
     let here = c.words.here in
     let L = c.part-line.result.now in
-    let t = c.next-token-token.result in
-    let e = c.next-token-token.ensures in
-    let f = ap (λ (xs : List ℕ). names_of (tokens (drop here xs))) (sym c.part-line.ensures) ∙ ap names_of (token-is L here t.1 t.0 e.token e.next) ∙ mark_names L t.0 t.1 (is_mark t.0 c.in-default.not-Word) in
+    let t = c.next_token-token.result in
+    let e = c.next_token-token.ensures in
+    let f = ap (λ (xs : List ℕ). names_of (tokens (drop here xs))) (sym c.part-line.ensures) ∙ ap names_of (token-is L here t.1 t.0 e.token e.next) ∙ mark_names L t.0 t.1 (is_mark t.0 c.in_default.not-Word) in
     record { stored = storing_last text (items c.args.words.now) (items c.words.words) _ _ f c.words.invariant.0; room = c.words.invariant.1 }

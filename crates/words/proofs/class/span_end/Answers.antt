@@ -1,4 +1,4 @@
-use Rattle.std.proofs.Common.{◌≡◌, sym, ap, ◌∙◌, arith}
+use Rattle.std.proofs.Common.{sym, ◌∙◌, arith}
 use Rattle.words.specs.Runs.{is_of}
 use Rattle.words.proofs.Spans.{run_more, run_over, run_end}
 use Rattle.words.proofs.class.span_end.Goals as goal

@@ -1,4 +1,4 @@
-use Rattle.std.proofs.Common.{◌≡◌, drop, sym, ◌∙◌}
+use Rattle.std.proofs.Common.{drop, sym, ◌∙◌}
 use Rattle.words.specs.Spelling.{word}
 use Rattle.words.proofs.Spells.{measured-wrong, measured-word, escapes-back}
 use Rattle.words.proofs.spelling.word_at.Goals as goal

@@ -1,4 +1,4 @@
-use Rattle.std.proofs.Common.{◌≡◌, ℕ, ◌+◌, List, sym, ap, ◌∙◌, arith}
+use Rattle.std.proofs.Common.{ℕ, List, sym, ap, arith}
 use Rattle.words.specs.Tokens.{Lexeme}
 use Rattle.words.proofs.Lexemes.{bar-last, bar-twice, bar_once}
 use Rattle.words.proofs.tokens.bar_at.Goals as goal

@@ -1,4 +1,3 @@
-use Rattle.std.proofs.Common.{◌≡◌, ◌-◌, min, length, take, ap, ◌∙◌, arith, length-take}
 use Rattle.lists.proofs.Held.{held-part}
 use Rattle.lists.proofs.grow.GrowList.as_slice.Goals as goal
 

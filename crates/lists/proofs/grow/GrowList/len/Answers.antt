@@ -1,4 +1,4 @@
-use Rattle.std.proofs.Common.{min, arith, length-take}
+use Rattle.std.proofs.Common.{arith, length-take}
 use Rattle.lists.proofs.grow.GrowList.len.Goals as goal
 
 pub returns : goal.returns

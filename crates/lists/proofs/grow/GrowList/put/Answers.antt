@@ -1,4 +1,4 @@
-use Rattle.std.proofs.Common.{◌≡◌, ◌<◌, ◌≤◌, sym, refl, ap, ◌∙◌, arith, length-take, rules}
+use Rattle.std.proofs.Common.{◌<◌, sym, refl, arith, length-take, rules}
 use Rattle.std.proofs.lemmas.List.{set_past}
 use Rattle.lists.proofs.Held.{take-set_in}
 use Rattle.lists.proofs.grow.GrowList.put.Goals as goal

@@ -1,4 +1,4 @@
-use Rattle.std.proofs.Common.{◌≡◌, sym, ◌∙◌, arith}
+use Rattle.std.proofs.Common.{sym, ◌∙◌, arith}
 use Rattle.lists.proofs.Words.{lex_at_lt, lex_at_gt, lex_at_eq, lex_at_end, lex_at_short}
 use Rattle.lists.proofs.names.NameKey.at_most.Goals as goal
 

@@ -1,4 +1,4 @@
-use Rattle.std.proofs.Common.{◌≡◌, sym, ap, ◌∙◌}
+use Rattle.std.proofs.Common.{sym, ap, ◌∙◌}
 use Rattle.std.specs.Str.{bytes_eq}
 use Rattle.lists.proofs.Words.{asked_by_lex}
 use Rattle.words.specs.Paths.{path_name}
@@ -6,4 +6,4 @@ use Rattle.words.specs.Spelling.{unescaped}
 use Rattle.manifest.proofs.keys.TextKeysPlacePath.key.Goals as goal
 
 pub returns : goal.returns
-returns c k = ap (λ bs. bytes_eq (path_name k) (unescaped bs)) (sym c.bytes-at.ensures) ∙ asked_by_lex (path_name k) (unescaped c.bytes-at.result.now)
+returns c k = ap (λ bs. bytes_eq (path_name k) (unescaped bs)) (sym c.bytes_at.ensures) ∙ asked_by_lex (path_name k) (unescaped c.bytes_at.result.now)

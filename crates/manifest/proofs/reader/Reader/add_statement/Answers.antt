@@ -1,4 +1,4 @@
-use Rattle.std.proofs.Common.{◌≡◌, ℕ, ◌+◌, ◌*◌, ◌<◌, ◌≤◌, Bool, true, false, cond, List, [], ◌∷◌, ◌++◌, map, length, take, drop, Ok, Err, Result, sym, refl, ap, ◌∙◌, subst, arith}
+use Rattle.std.proofs.Common.{◌≡◌, ◌+◌, ◌<◌, List, map, length, take, drop, Ok, Err, Result, sym, ap, ◌∙◌, subst, arith}
 use Rattle.std.proofs.lemmas.List.{length_push, map_push}
 use Rattle.std.proofs.lemmas.Bool.{cond-true, cond-false}
 use Rattle.terms.specs.declared.Place.{Place}
@@ -9,14 +9,14 @@ use Rattle.manifest.specs.declared.fault.Fault.{Fault}
 use Rattle.manifest.specs.declared.fault.Fault.TheVariants.{MadeTwice}
 use Rattle.manifest.specs.declared.fault.Owner.TheVariants.{LastStatement}
 use Rattle.manifest.specs.declared.rule.Statement.{Statement}
-use Rattle.manifest.specs.Books.{Making, Reading, twice, add_statement}
+use Rattle.manifest.specs.Books.{Making, Reading, twice}
 use Rattle.manifest.specs.Groups.{group_names, built_shown}
 use Rattle.manifest.specs.Kept.{book_of, Within}
-use Rattle.manifest.specs.Views.{declaration, making, names}
+use Rattle.manifest.specs.Views.{declaration, making}
 use Rattle.manifest.proofs.Added.{Added, longer, added, makings_same, within_more, within_limits}
 use Rattle.manifest.proofs.Declares.{pushed}
 use Rattle.manifest.proofs.reader.Reader.add_statement.Goals as goal
-use Rattle.manifest.proofs.reader.Reader.add_statement.Goals.{After-made-twice}
+use Rattle.manifest.proofs.reader.Reader.add_statement.Goals.{After-made_twice}
 
 pub store-requires-2 : goal.store-requires-2
 store-requires-2 c =
@@ -53,14 +53,14 @@ store-requires-4 c =
     )
 
 -- the words of the statement stand behind the others
-words : (c : After-made-twice) →
+words : (c : After-made_twice) →
     Added c.args.text.now (items c.args.self.now.words) (items c.store-4.new.words) (group_names (take c.args.end c.args.text.now) c.args.built.now.outputs)
     (group_names (take c.args.end c.args.text.now) c.args.built.now.inputs.plain) (group_names (take c.args.end c.args.text.now) c.args.built.now.inputs.implicit)
     (group_names (take c.args.end c.args.text.now) c.args.built.now.inputs.order)
 words c = added _ _ _ _ _ _ _ _ _ _ c.store.ensures.stored c.store-2.ensures.stored c.store-3.ensures.stored c.store-4.ensures.stored
 
 -- whether an output is made twice
-judged : (c : After-made-twice) → twice (book_of c.args.text.now c.args.self.now).statements (group_names (take c.args.end c.args.text.now) c.args.built.now.outputs) ≡ c.made-twice.result
+judged : (c : After-made_twice) → twice (book_of c.args.text.now c.args.self.now).statements (group_names (take c.args.end c.args.text.now) c.args.built.now.outputs) ≡ c.made_twice.result
 judged c =
     let text = c.args.text.now in
     let self = c.args.self.now in
@@ -72,13 +72,13 @@ judged c =
     let m = makings_same text (items self.words) new a.behind ss a.extends c.requires.sound.within in
     let o = a.outputs_are c.len-first.result g.count c.len-first.ensures.count c.requires.sums.0.count in
     ap (λ (ms : List Making). twice ms (group_names W g)) (sym m) ∙ ap (twice (map (making text new) ss)) (sym o) ∙
-    ap (λ (ps : List Place). twice (map (making text ps) ss) (map (name_at text) (take g.count (drop c.len-first.result ps)))) (sym c.as-slice-words.ensures) ∙
-    ap (λ (ps : List Place). twice (map (making text c.as-slice-words.result.now) ss) (map (name_at text) ps)) (sym c.part-outputs.ensures) ∙
-    ap (λ (xs : List Statement). twice (map (making text c.as-slice-words.result.now) xs) (map (name_at text) c.part-outputs.result.now)) (sym c.as-slice.ensures) ∙
-    sym c.made-twice.ensures
+    ap (λ (ps : List Place). twice (map (making text ps) ss) (map (name_at text) (take g.count (drop c.len-first.result ps)))) (sym c.as_slice-words.ensures) ∙
+    ap (λ (ps : List Place). twice (map (making text c.as_slice-words.result.now) ss) (map (name_at text) ps)) (sym c.part-outputs.ensures) ∙
+    ap (λ (xs : List Statement). twice (map (making text c.as_slice-words.result.now) xs) (map (name_at text) c.part-outputs.result.now)) (sym c.as_slice.ensures) ∙
+    sym c.made_twice.ensures
 
-pub returns-then-made-twice : goal.returns-then-made-twice
-returns-then-made-twice c = record { sound = tt; said = sym (cond-true _ (Err MadeTwice) _ (judged (goal.at.returns-then-made-twice c).After-made-twice ∙ c.if-made-twice.true)) }
+pub returns-then-made_twice : goal.returns-then-made_twice
+returns-then-made_twice c = record { sound = tt; said = sym (cond-true _ (Err MadeTwice) _ (judged (goal.at.returns-then-made_twice c).After-made_twice ∙ c.if-made_twice.true)) }
 
 pub returns : goal.returns
 returns c =
@@ -88,7 +88,7 @@ returns c =
     let W = take c.args.end text in
     let ss = items self.statements in
     let new = items c.store-4.new.words in
-    let d = (goal.at.returns c).After-made-twice in
+    let d = (goal.at.returns c).After-made_twice in
     let a = words d in
     let k = within_limits (built_shown W b) c.requires.limit in
     let s : Statement = record { line = c.args.line; rule = c.args.rule; first = c.len-first.result; outputs = b.outputs.count; plain = b.inputs.plain.count; implicit = b.inputs.implicit.count; order = b.inputs.order.count } in
@@ -110,5 +110,5 @@ returns c =
             (omega (arith, a.long, c.len-first.ensures.count, sums.0.count, sums.1.0.count, sums.1.1.count, sums.1.2.count)));
       };
       said = ap F (ap (map (making text new)) e ∙ map_push (making text new) ss s ∙ ap (λ (ms : List Making). ms ▷ making text new s) m ∙ ap (λ (x : Making). map (making text (items self.words)) ss ▷ x) is) ∙
-          sym (cond-false _ (Err MadeTwice) _ (judged d ∙ c.if-made-twice.false));
+          sym (cond-false _ (Err MadeTwice) _ (judged d ∙ c.if-made_twice.false));
     }

@@ -1,4 +1,4 @@
-use Rattle.std.proofs.Common.{◌≡◌, ℕ, ◌+◌, ◌<◌, ◌≤◌, false, List, [], ◌∷◌, ◌++◌, map, length, None, Ok, Result, sym, refl, ap, ◌∙◌, arith}
+use Rattle.std.proofs.Common.{◌≡◌, ℕ, ◌<◌, false, List, map, length, None, Ok, Result, sym, ap, ◌∙◌, arith}
 use Rattle.std.proofs.lemmas.List.{length-map, map_push}
 use Rattle.lists.specs.Grown.{items, room}
 use Rattle.words.specs.Spelling.{unescaped, name_at}
@@ -10,27 +10,27 @@ use Rattle.manifest.specs.Kept.{book_of}
 use Rattle.manifest.specs.Views.{declaration, making}
 use Rattle.manifest.proofs.Declares.{none_from, pushed, declared_many, declared-long, declared-new}
 use Rattle.manifest.proofs.reader.Reader.declare.Goals as goal
-use Rattle.manifest.proofs.reader.Reader.declare.Goals.{Else-is-some}
+use Rattle.manifest.proofs.reader.Reader.declare.Goals.{Else-is_some}
 
 -- the name is not declared yet
-new : (c : Else-is-some) → rule_number (map (declaration c.args.text.now) (items c.args.self.now.rules)) (name_at c.args.text.now c.args.word.place) ≡ None
+new : (c : Else-is_some) → rule_number (map (declaration c.args.text.now) (items c.args.self.now.rules)) (name_at c.args.text.now c.args.word.place) ≡ None
 new c =
     let D = declaration c.args.text.now in
-    ap (λ (bs : List ℕ). rule_number (map D (items c.args.self.now.rules)) (unescaped bs)) (sym c.bytes-at.ensures) ∙
-    ap (λ (rs : List Rule). rule_number (map D rs) (unescaped c.bytes-at.result.now)) (sym c.as-slice.ensures) ∙
-    sym c.rule-number.ensures ∙ none_from c.rule-number.result (sym c.is-some.ensures ∙ c.if-is-some.false)
+    ap (λ (bs : List ℕ). rule_number (map D (items c.args.self.now.rules)) (unescaped bs)) (sym c.bytes_at.ensures) ∙
+    ap (λ (rs : List Rule). rule_number (map D rs) (unescaped c.bytes_at.result.now)) (sym c.as_slice.ensures) ∙
+    sym c.rule_number.ensures ∙ none_from c.rule_number.result (sym c.is_some.ensures ∙ c.if-is_some.false)
 
 pub returns-then-len-ge-RULES : goal.returns-then-len-ge-RULES
 returns-then-len-ge-RULES c = record {
   sound = tt;
-  said = declared_many (book_of c.args.text.now c.args.self.now) (name_at c.args.text.now c.args.word.place) _ (new (goal.at.returns-then-len-ge-RULES c).Else-is-some)
+  said = declared_many (book_of c.args.text.now c.args.self.now) (name_at c.args.text.now c.args.word.place) _ (new (goal.at.returns-then-len-ge-RULES c).Else-is_some)
       (omega (arith, c.if-len-ge-RULES.true, c.len.ensures.count, length-map (items c.args.self.now.rules) (declaration c.args.text.now)));
 }
 
 pub returns-then-word-gt-LONGEST : goal.returns-then-word-gt-LONGEST
 returns-then-word-gt-LONGEST c = record {
   sound = tt;
-  said = declared-long (book_of c.args.text.now c.args.self.now) (name_at c.args.text.now c.args.word.place) _ (new (goal.at.returns-then-word-gt-LONGEST c).Else-is-some)
+  said = declared-long (book_of c.args.text.now c.args.self.now) (name_at c.args.text.now c.args.word.place) _ (new (goal.at.returns-then-word-gt-LONGEST c).Else-is_some)
       (omega (arith, c.if-word-gt-LONGEST.true, c.requires.word));
 }
 
@@ -52,6 +52,6 @@ returns c =
         within = c.requires.sound.within;
       };
       said = ap F (ap (map D) e ∙ map_push D (items self.rules) r) ∙
-          declared-new (book_of text self) (name_at text c.args.word.place) _ (new (goal.at.returns c).Else-is-some)
+          declared-new (book_of text self) (name_at text c.args.word.place) _ (new (goal.at.returns c).Else-is_some)
           (omega (arith, c.if-len-ge-RULES.false, c.len.ensures.count, length-map (items self.rules) D)) (omega (arith, c.if-word-gt-LONGEST.false, c.requires.word));
     }

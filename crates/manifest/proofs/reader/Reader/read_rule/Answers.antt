@@ -1,4 +1,4 @@
-use Rattle.std.proofs.Common.{◌≡◌, ℕ, List, length, take, drop, Some, Option, sym, ap, ◌∙◌, subst}
+use Rattle.std.proofs.Common.{◌≡◌, ℕ, List, length, drop, Some, sym, ap, ◌∙◌, subst}
 use Rattle.words.specs.Spelling.{name_at}
 use Rattle.words.specs.Tokens.{tokens}
 use Rattle.manifest.specs.Building.{rule_of}

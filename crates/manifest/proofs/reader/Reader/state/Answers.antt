@@ -1,4 +1,4 @@
-use Rattle.std.proofs.Common.{◌≡◌, ℕ, ◌<◌, ◌≤◌, List, map, length, take, Some, sym, refl, ap, ◌∙◌, arith}
+use Rattle.std.proofs.Common.{◌≡◌, ℕ, List, map, take, Some, sym, refl, ap, ◌∙◌, arith}
 use Rattle.std.proofs.lemmas.List.{length-map}
 use Rattle.lists.specs.Grown.{items}
 use Rattle.lists.specs.Words.{placed}
@@ -17,8 +17,8 @@ declared : (c : In-Some) → rule_number (map (declaration c.args.text.now) (ite
 declared c =
     let D = declaration c.args.text.now in
     let p = c.args.built.now.rule.place in
-    ap (λ (bs : List ℕ). rule_number (map D (items c.args.self.now.rules)) (unescaped bs)) (ap (λ (xs : List ℕ). placed xs p) (sym c.part-bytes.ensures) ∙ sym c.bytes-at.ensures) ∙
-    ap (λ (rs : List Rule). rule_number (map D rs) (unescaped c.bytes-at.result.now)) (sym c.as-slice.ensures) ∙ sym c.rule-number.ensures ∙ c.in-Some.is
+    ap (λ (bs : List ℕ). rule_number (map D (items c.args.self.now.rules)) (unescaped bs)) (ap (λ (xs : List ℕ). placed xs p) (sym c.part-bytes.ensures) ∙ sym c.bytes_at.ensures) ∙
+    ap (λ (rs : List Rule). rule_number (map D rs) (unescaped c.bytes_at.result.now)) (sym c.as_slice.ensures) ∙ sym c.rule_number.ensures ∙ c.in-Some.is
 
 pub returns-then-len-ge-STATEMENTS : goal.returns-then-len-ge-STATEMENTS
 returns-then-len-ge-STATEMENTS c = record {
@@ -33,9 +33,9 @@ returns c =
     let self = c.args.self.now in
     let B = built_shown (take c.args.end text) c.args.built.now in
     record {
-      sound = c.add-statement.ensures.sound;
-      said = c.add-statement.ensures.said ∙
+      sound = c.add_statement.ensures.sound;
+      said = c.add_statement.ensures.said ∙
           stated-within c.args.line (book_of text self) B _ c.in-Some.rule (declared (goal.at.returns c).In-Some) _
           (omega (arith, c.if-len-ge-STATEMENTS.false, c.len.ensures.count, length-map (items self.statements) (making text (items self.words))))
-          (ap (λ (xs : List ℕ). is_over (built_shown xs c.args.built.now)) (sym c.part-bytes.ensures) ∙ sym c.over-limit.ensures ∙ c.if-over-limit.false) refl;
+          (ap (λ (xs : List ℕ). is_over (built_shown xs c.args.built.now)) (sym c.part-bytes.ensures) ∙ sym c.over_limit.ensures ∙ c.if-over_limit.false) refl;
     }

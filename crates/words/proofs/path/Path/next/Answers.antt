@@ -1,4 +1,4 @@
-use Rattle.std.proofs.Common.{◌≡◌, ◌+◌, [], get_or, Some, None, sym, ap, ◌∙◌, subst, arith}
+use Rattle.std.proofs.Common.{◌+◌, get_or, Some, None, sym, subst, arith}
 use Rattle.std.proofs.lemmas.List.{drop_all, drop_more, at_drop_all}
 use Rattle.words.specs.Spelling.{unescaped}
 use Rattle.words.specs.Paths.{Next}

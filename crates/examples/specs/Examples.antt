@@ -1,7 +1,6 @@
 -- Worked examples of the definitions, a row each. Assumes nothing.
-use Rattle.std.specs.Prelude.{◌≡◌, ℕ, zero, suc, ◌+◌, true, false, List, [], ◌∷◌, ◌++◌, length, take, replicate, Some, None, Ok, Err, codes, Result}
+use Rattle.std.specs.Prelude.{◌≡◌, ℕ, true, false, List, [], ◌∷◌, ◌++◌, length, take, replicate, Some, None, Ok, Err, codes}
 use Rattle.std.specs.Str.{bytes_eq}
-use Rattle.terms.specs.declared.Refusal.{Refusal}
 use Rattle.terms.specs.declared.Refusal.TheVariants.{NoHeader, OverLimit, NotName, TooManyInputs}
 use Rattle.terms.specs.declared.Place.{Place}
 use Rattle.terms.specs.Refusals.{number_and_place}

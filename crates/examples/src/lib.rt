@@ -1,4 +1,6 @@
 // The worked examples of the definitions.
+#![tactic(auto)]
+
 ghost use Rattle.std.specs.Prelude.{◌≡◌};
 ghost use Rattle.examples.specs.Examples.{image76, Examples};
 

@@ -14,6 +14,6 @@ returns-in-Ok g c =
     let b = c.in_ok-draft.ensures in
     let room = le-ltb s.capacity (length xs) (omega (arith, c.if-capacity-count_entries.false, c.capacity.ensures, c.count_entries.ensures.length)) in
     record {
-      medium = promoted_in_place xs s (st c.begin.new.self) (st c.fill_draft.new.medium) (st c.promote.new.self) c.promote.result room b.on b.after q.filled.after c.promote.ensures;
-      known = if_ok c.promote.result _ q.known;
+      medium = promoted_in_place xs s (st c.begin.new.self) (st c.fill_draft.new.medium) _ _ room b.on b.after q.filled.after (assumption c);
+      known = if_ok _ _ q.known;
     }

@@ -19,8 +19,7 @@ use std::{env, io};
 const USAGE: &str =
     "usage: hefnwyrad dump LOG                          print each record of a deps log, its entries, and a tail that cannot be read
        hefnwyrad find LOG OUTPUT                   print the mtime and the inputs of an output's entry
-       hefnwyrad note LOG OUTPUT MTIME INPUT...    note that an output was made at a time from inputs
-       hefnwyrad recompact LOG                     keep each entry once and nothing else";
+       hefnwyrad note LOG OUTPUT MTIME INPUT...    note that an output was made at a time from inputs";
 
 // False where what was asked could not be done; a line on standard error has said why.
 fn run(rt: &HostRuntime) -> io::Result<bool> {

@@ -4,9 +4,9 @@ use Rattle.std.proofs.lemmas.List.{at_drop_more}
 use Rattle.terms.specs.declared.Place.{Place}
 use Rattle.terms.specs.declared.Refusal.{Refusal}
 use Rattle.terms.specs.declared.Refusal.TheVariants.{Outside, NotName}
-use Rattle.image.specs.Names.{is_name}
+use Rattle.terms.specs.Names.{is_name}
 use Rattle.depslog.specs.Calls.{fault_or}
-use Rattle.notes.specs.Meant.{cut}
+use Rattle.terms.specs.Places.{at_place}
 use Rattle.depslog.specs.Noting.{outside, place_fault, name_fault}
 
 -- Name by name -------------------------------------------------------------------------------------------------------------
@@ -31,10 +31,10 @@ rest_of false true x y o e = absurd (never y (sym e))
 rest_of false false x y o e = refl
 
 pub place-bad : (bytes : List ℕ) (i : ℕ) (p : Place) (f : Refusal) (o : Option Refusal) → Err f ≡ Checked (place_fault bytes i p None) → Err f ≡ Checked (place_fault bytes i p o)
-place-bad bytes i p f o e = first_of (outside bytes p) (not (is_name (cut bytes p))) (Outside i) (NotName i) f o e
+place-bad bytes i p f o e = first_of (outside bytes p) (not (is_name (at_place bytes p))) (Outside i) (NotName i) f o e
 
 pub place-good : (bytes : List ℕ) (i : ℕ) (p : Place) (o : Option Refusal) → Ok tt ≡ Checked (place_fault bytes i p None) → place_fault bytes i p o ≡ o
-place-good bytes i p o e = rest_of (outside bytes p) (not (is_name (cut bytes p))) (Outside i) (NotName i) o e
+place-good bytes i p o e = rest_of (outside bytes p) (not (is_name (at_place bytes p))) (Outside i) (NotName i) o e
 
 -- the places from the k-th on
 pub names-next : (bytes : List ℕ) (i k : ℕ) (ps : List Place) (d : Place) → k < length ps →

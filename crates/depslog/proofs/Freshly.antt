@@ -11,20 +11,20 @@ use Rattle.image.proofs.Tests.{place_in_lem}
 use Rattle.notes.specs.Notes.{unknown, new_names, id_at, id_in}
 use Rattle.notes.proofs.Places as places
 use Rattle.depslog.specs.declared.fresh.Fresh.{Fresh}
-use Rattle.notes.specs.Meant.{cut}
+use Rattle.terms.specs.Places.{at_place}
 use Rattle.depslog.specs.FreshNames.{fresh_names}
 
 pub fresh_long : (bytes : List ℕ) (f : Fresh) → length (fresh_names bytes f) ≡ f.count
-fresh_long bytes f = length-map (take f.count f.places) (cut bytes) ∙ length-take-le f.count f.places (omega (arith, f.few, f.long))
+fresh_long bytes f = length-map (take f.count f.places) (at_place bytes) ∙ length-take-le f.count f.places (omega (arith, f.few, f.long))
 
 -- the name at an index
-pub fresh_at : (bytes : List ℕ) (f : Fresh) (k : ℕ) (d : Place) → k < f.count → get_or (fresh_names bytes f) k [] ≡ cut bytes (get_or f.places k d)
+pub fresh_at : (bytes : List ℕ) (f : Fresh) (k : ℕ) (d : Place) → k < f.count → get_or (fresh_names bytes f) k [] ≡ at_place bytes (get_or f.places k d)
 fresh_at bytes f k d h =
-    get_or-map (cut bytes) (take f.count f.places) k d [] (omega (arith, h, length-take-le f.count f.places (omega (arith, f.few, f.long)))) ∙
-    ap (cut bytes) (get_or-take f.count f.places k d h)
+    get_or-map (at_place bytes) (take f.count f.places) k d [] (omega (arith, h, length-take-le f.count f.places (omega (arith, f.few, f.long)))) ∙
+    ap (at_place bytes) (get_or-take f.count f.places k d h)
 
 -- whether the name at an index is the one that is asked for
-pub fresh_asked : (bytes name cutout : List ℕ) (f : Fresh) (k : ℕ) (d : Place) (r : Bool) → k < f.count → cutout ≡ cut bytes (get_or f.places k d) → Decides r (cutout ≡ name) →
+pub fresh_asked : (bytes name cutout : List ℕ) (f : Fresh) (k : ℕ) (d : Place) (r : Bool) → k < f.count → cutout ≡ at_place bytes (get_or f.places k d) → Decides r (cutout ≡ name) →
     bytes_eq name (get_or (fresh_names bytes f) k []) ≡ r
 fresh_asked bytes name cutout f k d r h e q =
     ap (bytes_eq name) (fresh_at bytes f k d h ∙ sym e) ∙ decided r name cutout ((λ t. sym (q.0 t)), (λ s. q.1 (sym s)))
@@ -49,8 +49,8 @@ is-taken n known fresh a = cond-true (is_in n (known ++ fresh)) [] (n ∷ []) (i
 
 -- one place more
 pub fresh_more : (bytes : List ℕ) (places : List Place) (count : ℕ) (p : Place) → count < length places →
-    map (cut bytes) (take (count + 1) (set places count p)) ≡ map (cut bytes) (take count places) ▷ cut bytes p
-fresh_more bytes places count p h = ap (map (cut bytes)) (take_more_set places count p h) ∙ map_push (cut bytes) (take count places) p
+    map (at_place bytes) (take (count + 1) (set places count p)) ≡ map (at_place bytes) (take count places) ▷ at_place bytes p
+fresh_more bytes places count p h = ap (map (at_place bytes)) (take_more_set places count p h) ∙ map_push (at_place bytes) (take count places) p
 
 -- what is left to be taken in
 pub new-next : (known fresh : List (List ℕ)) (n : List ℕ) (ns : List (List ℕ)) →
@@ -73,7 +73,7 @@ pub together-all : (known fresh : List (List ℕ)) → together known fresh [] �
 together-all known fresh = append-nil fresh
 
 pub fresh_none : (bytes : List ℕ) (f : Fresh) → f.count ≡ 0 → fresh_names bytes f ≡ []
-fresh_none bytes f e = ap (λ (k : ℕ). map (cut bytes) (take k f.places)) e
+fresh_none bytes f e = ap (λ (k : ℕ). map (at_place bytes) (take k f.places)) e
 
 -- Ids ----------------------------------------------------------------------------------------------------------------------
 
@@ -117,13 +117,13 @@ id_none n known fresh e f = sym (ap id_at (place-behind n known fresh e ∙ ap (
 
 -- the ids of names at places
 abbrev pub ids_of : List (List ℕ) → List ℕ → List Place → List ℕ
-ids_of names bytes ps = map (id_in names) (map (cut bytes) ps)
+ids_of names bytes ps = map (id_in names) (map (at_place bytes) ps)
 
 pub ids_more : (names : List (List ℕ)) (bytes : List ℕ) (ps : List Place) (k : ℕ) (d : Place) → k < length ps →
-    ids_of names bytes (take (k + 1) ps) ≡ ids_of names bytes (take k ps) ▷ id_in names (cut bytes (get_or ps k d))
+    ids_of names bytes (take (k + 1) ps) ≡ ids_of names bytes (take k ps) ▷ id_in names (at_place bytes (get_or ps k d))
 ids_more names bytes ps k d h =
-    ap (ids_of names bytes) (take_more ps k d h) ∙ ap (map (id_in names)) (map_push (cut bytes) (take k ps) (get_or ps k d)) ∙
-    map_push (id_in names) (map (cut bytes) (take k ps)) (cut bytes (get_or ps k d))
+    ap (ids_of names bytes) (take_more ps k d h) ∙ ap (map (id_in names)) (map_push (at_place bytes) (take k ps) (get_or ps k d)) ∙
+    map_push (id_in names) (map (at_place bytes) (take k ps)) (at_place bytes (get_or ps k d))
 
 pub ids-long : (names : List (List ℕ)) (bytes : List ℕ) (ps : List Place) → length (ids_of names bytes ps) ≡ length ps
-ids-long names bytes ps = length-map (map (cut bytes) ps) (id_in names) ∙ length-map ps (cut bytes)
+ids-long names bytes ps = length-map (map (at_place bytes) ps) (id_in names) ∙ length-map ps (at_place bytes)

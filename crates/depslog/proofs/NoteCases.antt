@@ -12,7 +12,8 @@ use Rattle.image.specs.Tables.{Entry, Table, learn_all}
 use Rattle.image.specs.Learning.{deps_learned}
 use Rattle.image.specs.Kept.{Kept}
 use Rattle.notes.specs.Notes.{Note, unchanged, new_names, names_of, id_in, note_bytes, note_table}
-use Rattle.notes.specs.Meant.{cut, meant}
+use Rattle.terms.specs.Places.{at_place}
+use Rattle.notes.specs.Meant.{meant}
 use Rattle.notes.specs.Wholeness.{Fitting}
 use Rattle.notes.proofs.Noting.{records-none, note_names}
 use Rattle.depslog.specs.State.{LogState, closed_on, open_on}
@@ -124,4 +125,4 @@ module _ (t : Table) (m : State) (bytes : List ℕ) (output : Place) (mtime : �
 
   pub noted-fits : length inputs ≤ 64 → mtime < 2 ^ 64 → Ok tt ≡ Checked (name_fault bytes 0 (output ∷ inputs) None) → length (note_table t n).names ≤ 256 → Fitting t n
   noted-fits h time e few =
-      record { named = (names-good bytes 0 (output ∷ inputs) None e).0; few = omega (arith, h, length-map inputs (cut bytes)); timed = time; room = few }
+      record { named = (names-good bytes 0 (output ∷ inputs) None e).0; few = omega (arith, h, length-map inputs (at_place bytes)); timed = time; room = few }

@@ -6,7 +6,7 @@ use Rattle.terms.specs.declared.Place.{Place}
 use Rattle.terms.specs.declared.Refusal.{Refusal}
 use Rattle.terms.specs.declared.Refusal.TheVariants.{Outside, NotName}
 use Rattle.terms.specs.Lists.{every, is_in, ◌▷◌}
-use Rattle.image.specs.Names.{is_name}
+use Rattle.terms.specs.Names.{is_name}
 use Rattle.image.specs.Bytes.{path, deps, record_bytes, records_bytes}
 use Rattle.image.specs.Reading.{is_known}
 use Rattle.image.specs.Tables.{Entry, Table, learn}
@@ -14,7 +14,7 @@ use Rattle.image.specs.Laws.{AllWritable}
 use Rattle.image.specs.Learning.{takes_deps, deps_learned}
 use Rattle.notes.specs.Notes.{Note, unchanged, new_names, names_of, extended, id_in, deps_of, note_bytes, note_table}
 use Rattle.notes.specs.Wholeness.{Fitting}
-use Rattle.notes.specs.Meant.{cut}
+use Rattle.terms.specs.Places.{at_place}
 use Rattle.notes.proofs.Noting.{new-known, new-unknown, all_in, records-full, named, named-names, table-full, note_writable}
 use Rattle.notes.proofs.Places.{ids-below}
 use Rattle.notes.proofs.Keeping.{front_writable}
@@ -78,7 +78,7 @@ bad-behind false false x y f r o h e = h e
 pub names-bad : (bytes : List ℕ) (i : ℕ) (ps : List Place) (f : Refusal) (o : Option Refusal) → Err f ≡ Checked (name_fault bytes i ps None) → name_fault bytes i ps o ≡ Some f
 names-bad bytes i [] f o e = absurd (never f e)
 names-bad bytes i (p ∷ ps) f o e =
-    bad-behind (outside bytes p) (not (is_name (cut bytes p))) (Outside i) (NotName i) f (name_fault bytes (i + 1) ps None) (name_fault bytes (i + 1) ps o) (names-bad bytes (i + 1) ps f o) e
+    bad-behind (outside bytes p) (not (is_name (at_place bytes p))) (Outside i) (NotName i) f (name_fault bytes (i + 1) ps None) (name_fault bytes (i + 1) ps o) (names-bad bytes (i + 1) ps f o) e
 
 -- two checks and what follows them: where there is no fault, neither check failed
 record Behind (a b : Bool) (x y : Refusal) (r o : Option Refusal) : Type 0 where
@@ -92,9 +92,9 @@ good-behind false false x y r o e = absurd (never y (sym e))
 good-behind false true x y r o e = record { named = refl; rest = e; left = refl }
 
 -- and where there is none, all are names, and only what follows is left
-pub names-good : (bytes : List ℕ) (i : ℕ) (ps : List Place) (o : Option Refusal) → Ok tt ≡ Checked (name_fault bytes i ps None) → (every is_name (map (cut bytes) ps) ≡ true) × (name_fault bytes i ps o ≡ o)
+pub names-good : (bytes : List ℕ) (i : ℕ) (ps : List Place) (o : Option Refusal) → Ok tt ≡ Checked (name_fault bytes i ps None) → (every is_name (map (at_place bytes) ps) ≡ true) × (name_fault bytes i ps o ≡ o)
 names-good bytes i [] o e = (refl, refl)
 names-good bytes i (p ∷ ps) o e =
-    let q = good-behind (outside bytes p) (is_name (cut bytes p)) (Outside i) (NotName i) (name_fault bytes (i + 1) ps None) (name_fault bytes (i + 1) ps o) e in
+    let q = good-behind (outside bytes p) (is_name (at_place bytes p)) (Outside i) (NotName i) (name_fault bytes (i + 1) ps None) (name_fault bytes (i + 1) ps o) e in
     let r = names-good bytes (i + 1) ps o q.rest in
-    (and_from (is_name (cut bytes p)) (every is_name (map (cut bytes) ps)) q.named r.0, q.left ∙ r.1)
+    (and_from (is_name (at_place bytes p)) (every is_name (map (at_place bytes) ps)) q.named r.0, q.left ∙ r.1)

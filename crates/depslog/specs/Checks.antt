@@ -3,7 +3,7 @@ use Rattle.std.specs.Prelude.{ℕ, Bool, cond, not, ◌&&◌, List, length, Some
 use Rattle.std.specs.Str.{bytes_eq}
 use Rattle.terms.specs.declared.Refusal.{Refusal}
 use Rattle.terms.specs.declared.Refusal.TheVariants.{Full, Closed, NoHeader, OverLimit, CopyShort, NotName}
-use Rattle.image.specs.Names.{is_name}
+use Rattle.terms.specs.Names.{is_name}
 use Rattle.image.specs.Scans.{has_header, image_of, over_limit, good_bytes}
 
 -- one check: its refusal where it fails, and else the checks that follow

@@ -4,12 +4,11 @@ ghost use Rattle.terms.specs.Lists.{place_in};
 ghost use Rattle.image.specs.Learning.{view};
 ghost use Rattle.image.specs.View.{entry_of};
 ghost use Rattle.notes.specs.Notes.{unknown, new_names, id_in};
-ghost use Rattle.notes.specs.Meant.{cut};
+ghost use Rattle.terms.specs.Places.{at_place};
 ghost use Rattle.depslog.specs.FreshNames.{fresh_names};
 
 use super::fresh::Fresh;
 use image::{DepsEntry, DepsTable};
-use notes::part;
 use terms::Place;
 
 impl Fresh {
@@ -31,7 +30,7 @@ impl Fresh {
         ensures { result ≡ place_in name.now (fresh_names bytes.now self.now) }
     {
         for k in 0..self.count {
-            if part(bytes, self.places[k]) == name {
+            if self.places[k].of(bytes) == name {
                 return Some(k);
             }
         }
@@ -41,10 +40,10 @@ impl Fresh {
     // Adds the name at a place, unless it is known or among these.
     fn take_in(&mut self, table: &DepsTable, bytes: &[u8], place: Place)
         requires { self.old.count < 65 }
-        ensures names { fresh_names bytes.now self.new ≡ fresh_names bytes.now self.old ++ unknown ((view table.now).names ++ fresh_names bytes.now self.old) (cut bytes.now place) }
+        ensures names { fresh_names bytes.now self.new ≡ fresh_names bytes.now self.old ++ unknown ((view table.now).names ++ fresh_names bytes.now self.old) (at_place bytes.now place) }
         ensures count { self.new.count ≤ self.old.count + 1 }
     {
-        let name = part(bytes, place);
+        let name = place.of(bytes);
         if table.id_of(name).is_none() && self.place_of(bytes, name).is_none() {
             self.places[self.count] = place;
             self.count += 1;
@@ -55,7 +54,7 @@ impl Fresh {
 // The names of a note that are not known, each once, in order.
 pub(super) fn fresh_names(table: &DepsTable, bytes: &[u8], output: Place, inputs: &[Place]) -> Fresh
     requires { length inputs.now ≤ 64 }
-    ensures { fresh_names bytes.now result ≡ new_names (view table.now).names (map (cut bytes.now) (output ∷ inputs.now)) }
+    ensures { fresh_names bytes.now result ≡ new_names (view table.now).names (map (at_place bytes.now) (output ∷ inputs.now)) }
 {
     let mut fresh = Fresh::none();
     fresh.take_in(table, bytes, output);
@@ -88,11 +87,11 @@ pub(super) fn entry_for(
     inputs: &[Place],
 ) -> DepsEntry
     requires { length inputs.now ≤ 64 }
-    ensures { entry_of result ≡ record { mtime = mtime; inputs = map (id_in ((view table.now).names ++ fresh_names bytes.now fresh.now)) (map (cut bytes.now) inputs.now) } }
+    ensures { entry_of result ≡ record { mtime = mtime; inputs = map (id_in ((view table.now).names ++ fresh_names bytes.now fresh.now)) (map (at_place bytes.now) inputs.now) } }
 {
     let mut gathered = DepsEntry::new(mtime);
     for place in inputs {
-        gathered.push(id_in(table, bytes, fresh, part(bytes, *place)) as u32);
+        gathered.push(id_in(table, bytes, fresh, place.of(bytes)) as u32);
     }
     gathered
 }

@@ -1,7 +1,7 @@
 // How many bytes the path records of a note take, and what the table learns from them.
 ghost use Rattle.std.specs.Prelude.{◌≡◌, ℕ, ◌*◌, ◌≤◌, true, map, length};
 ghost use Rattle.terms.specs.Lists.{every};
-ghost use Rattle.image.specs.Names.{is_name};
+ghost use Rattle.terms.specs.Names.{is_name};
 ghost use Rattle.image.specs.Bytes.{path, records_bytes};
 ghost use Rattle.image.specs.Tables.{learn_all};
 ghost use Rattle.image.specs.Laws.{AllWritable};
@@ -10,7 +10,6 @@ ghost use Rattle.depslog.specs.FreshNames.{fresh_names};
 
 use super::fresh::Fresh;
 use image::DepsTable;
-use notes::part;
 
 // How many bytes the path records of the new names take, whatever their ids.
 pub(super) fn paths_length(bytes: &[u8], fresh: &Fresh) -> usize
@@ -20,7 +19,7 @@ pub(super) fn paths_length(bytes: &[u8], fresh: &Fresh) -> usize
 {
     let mut total = 0;
     for k in 0..fresh.count {
-        let len = part(bytes, fresh.places[k]).len();
+        let len = fresh.places[k].of(bytes).len();
         total += 8 + len + (4 - len % 4) % 4;
     }
     total
@@ -32,6 +31,6 @@ pub(super) fn learn_names(table: &mut DepsTable, bytes: &[u8], fresh: &Fresh)
     ensures { view table.new ≡ learn_all (view table.old) (map path (fresh_names bytes.now fresh.now)) }
 {
     for k in 0..fresh.count {
-        table.learn_path(part(bytes, fresh.places[k]));
+        table.learn_path(fresh.places[k].of(bytes));
     }
 }

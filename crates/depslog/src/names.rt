@@ -4,7 +4,6 @@ ghost use Rattle.depslog.specs.Calls.{fault_or};
 ghost use Rattle.depslog.specs.Noting.{place_fault, name_fault};
 
 use image::Name;
-use notes::part;
 use terms::{Place, Refusal};
 
 // Whether the name with an index lies in the bytes and is a name.
@@ -14,7 +13,7 @@ fn check_name(bytes: &[u8], place: Place, index: usize) -> Result<(), Refusal>
     if place.start > bytes.len() || place.length > bytes.len() - place.start {
         return Err(Refusal::Outside(index));
     }
-    if Name::new(part(bytes, place)).is_none() {
+    if Name::new(place.of(bytes)).is_none() {
         return Err(Refusal::NotName(index));
     }
     Ok(())

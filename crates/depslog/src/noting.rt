@@ -2,7 +2,8 @@
 ghost use Rattle.std.specs.Prelude.{◌≡◌, ◌≤◌, true, false, ◌∷◌, map, length};
 ghost use Rattle.image.specs.Learning.{view};
 ghost use Rattle.notes.specs.Notes.{unchanged, new_names};
-ghost use Rattle.notes.specs.Meant.{cut, meant};
+ghost use Rattle.terms.specs.Places.{at_place};
+ghost use Rattle.notes.specs.Meant.{meant};
 ghost use Rattle.notes.specs.Wholeness.{Fitting};
 ghost use Rattle.depslog.specs.State.{state_of};
 ghost use Rattle.depslog.specs.FreshNames.{fresh_names};
@@ -15,7 +16,7 @@ use super::log::Log;
 use super::names::check_names;
 use super::writing::{Written, append_note};
 use medium::Medium;
-use notes::{is_unchanged, part};
+use notes::is_unchanged;
 use terms::{Place, Refusal};
 
 impl<M: Medium> Log<M> {
@@ -32,11 +33,11 @@ impl<M: Medium> Log<M> {
         requires few { length inputs.now ≤ 64 }
         requires fitting { Fitting (view self.old.table) (meant bytes.now output mtime inputs.now) }
         requires news { unchanged (view self.old.table) (meant bytes.now output mtime inputs.now) ≡ false }
-        requires names { fresh_names bytes.now fresh.now ≡ new_names (view self.old.table).names (map (cut bytes.now) (output ∷ inputs.now)) }
+        requires names { fresh_names bytes.now fresh.now ≡ new_names (view self.old.table).names (map (at_place bytes.now) (output ∷ inputs.now)) }
         ensures { NewlyNoted (meant bytes.now output mtime inputs.now) (state_of M.Medium.state self.old) result (state_of M.Medium.state self.new) }
     {
         let first = self.table.path_count();
-        let id = id_in(&self.table, bytes, fresh, part(bytes, output));
+        let id = id_in(&self.table, bytes, fresh, output.of(bytes));
         let entry = entry_for(&self.table, bytes, fresh, mtime, inputs);
         match append_note(&mut self.medium, first, bytes, fresh, id as u32, &entry) {
             Written::All => {

@@ -1,6 +1,6 @@
 // Appending the records of a note, each as an append of its own.
 ghost use Rattle.std.specs.Prelude.{◌≡◌, ◌+◌, ◌≤◌, true, ◌++◌, map, length};
-ghost use Rattle.image.specs.Names.{is_name};
+ghost use Rattle.terms.specs.Names.{is_name};
 ghost use Rattle.terms.specs.Lists.{every};
 ghost use Rattle.image.specs.Bytes.{path, deps, record_bytes, records_bytes};
 ghost use Rattle.image.specs.View.{entry_of};
@@ -13,7 +13,6 @@ use super::fresh::Fresh;
 use super::learning::paths_length;
 use image::{DepsEntry, Name, write_deps, write_path};
 use medium::{Fault, Medium, fits};
-use notes::part;
 
 // Appends the path record that gives a name this id.
 fn append_path<M: Medium>(medium: &mut M, id: u32, name: &[u8]) -> Result<(), Fault>
@@ -57,7 +56,7 @@ fn append_paths<M: Medium>(
     ensures { AppendedAll (records_bytes first (map path (fresh_names bytes.now fresh.now))) (M.Medium.state medium.old) result (M.Medium.state medium.new) }
 {
     for k in 0..fresh.count {
-        append_path(medium, (first + k) as u32, part(bytes, fresh.places[k]))?;
+        append_path(medium, (first + k) as u32, fresh.places[k].of(bytes))?;
     }
     Ok(())
 }

@@ -6,7 +6,7 @@ use Rattle.terms.specs.declared.Place.{Place}
 use Rattle.terms.specs.Refusals.{number_and_place}
 use Rattle.image.specs.declared.cause.Cause.TheVariants.{TooLong}
 use Rattle.image.specs.declared.filled.Filled.{Filled}
-use Rattle.image.specs.Names.{is_name}
+use Rattle.terms.specs.Names.{is_name}
 use Rattle.image.specs.Bytes.{Record, path, deps, header, records_bytes}
 use Rattle.image.specs.Reading.{cause_number}
 use Rattle.image.specs.Tables.{Table, bare}

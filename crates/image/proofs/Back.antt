@@ -4,7 +4,7 @@ use Rattle.std.proofs.lemmas.List.{length-take-le, length-append, take_at, drop_
 use Rattle.std.proofs.lemmas.Bool.{lt-ltb, and_parts, le-ltb, le-leb, lt-leb, eq-eqb, ltb-true, not_from_true, or_from, cond-true, cond-false}
 use Rattle.image.specs.declared.cause.Cause.TheVariants.{NoWord, TooLong, BadSize, BadChecksum, BadName, UnknownId}
 use Rattle.terms.specs.Lists.{every, is_in}
-use Rattle.image.specs.Names.{holds_zero}
+use Rattle.terms.specs.Names.{holds_zero}
 use Rattle.image.specs.Bytes.{Record, path, deps, word, long, words, padding, padded, checksum, record_bytes}
 use Rattle.image.specs.Reading.{Reading, good, bad, word_at, long_at, words_of, unpadded, read_name, read_path, read_deps, is_known, is_deps, size_of, odd_size, read_body, read_front, next_offset}
 use Rattle.image.specs.Laws.{Writable, Torn}

@@ -8,7 +8,7 @@ use Rattle.terms.specs.Lists.{every, is_in, ◌▷◌}
 use Rattle.image.specs.declared.entry.DepsEntry.{DepsEntry}
 use Rattle.image.specs.declared.name.Name.{Name}
 use Rattle.image.specs.declared.table.DepsTable.{DepsTable}
-use Rattle.image.specs.Names.{is_name}
+use Rattle.terms.specs.Names.{is_name}
 use Rattle.image.specs.Bytes.{path}
 use Rattle.image.specs.Tables.{Entry, Table, learn}
 use Rattle.image.specs.Kept.{distinct, fits_entry, Kept}

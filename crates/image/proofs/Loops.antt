@@ -3,7 +3,7 @@ use Rattle.std.proofs.Common.{◌≡◌, ℕ, zero, suc, ◌+◌, ◌-◌, ◌*�
 use Rattle.std.proofs.lemmas.List.{append_assoc, at_drop_more, drop-drop, take-take, length-take-le, get_or-take, get_or_default}
 use Rattle.std.proofs.lemmas.Bool.{eq-eqb, ne_eqb, or_left, cond-true, cond-false}
 use Rattle.terms.specs.Lists.{every, ◌▷◌}
-use Rattle.image.specs.Names.{holds_zero}
+use Rattle.terms.specs.Names.{holds_zero}
 use Rattle.image.specs.Reading.{word_at, words_of, trimmed}
 
 -- Zeros ------------------------------------------------------------------------------------------------------------------

@@ -3,7 +3,7 @@ use Rattle.std.proofs.Common.{◌≡◌, ℕ, ◌≤◌, true, false, not, ◌&&
 use Rattle.std.proofs.lemmas.List.{take_at}
 use Rattle.std.proofs.lemmas.Bool.{and_from, and_parts, le-leb, leb-true, not-true, not_from_false}
 use Rattle.terms.specs.Lists.{every}
-use Rattle.image.specs.Names.{holds_zero, is_name}
+use Rattle.terms.specs.Names.{holds_zero, is_name}
 use Rattle.image.specs.declared.name.Name.{Name}
 use Rattle.image.specs.View.{text}
 

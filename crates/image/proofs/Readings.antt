@@ -4,7 +4,7 @@ use Rattle.std.specs.Str.{bytes_eq}
 use Rattle.std.proofs.lemmas.Bool.{cond-true, cond-false, eq-eqb, eqb-true, lt-ltb, le-ltb, ltb-false, le-leb, lt-leb, or_parts, not-false, cases_lt, cases_Bool, false≢true, true≢false}
 use Rattle.terms.specs.Lists.{empty, every, is_in, place_in}
 use Rattle.image.specs.declared.cause.Cause.TheVariants.{NoWord, TooLong, BadSize, BadChecksum, BadName, UnknownId}
-use Rattle.image.specs.Names.{holds_zero}
+use Rattle.terms.specs.Names.{holds_zero}
 use Rattle.image.specs.Bytes.{path, deps, checksum}
 use Rattle.image.specs.Reading.{Reading, good, bad, end, word_at, long_at, words_of, unpadded, read_name, read_path, read_deps, is_known, is_deps, size_of, odd_size, read_body, read_front, next_offset, read_at}
 use Rattle.image.specs.Shown.{Leads}

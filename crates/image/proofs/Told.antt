@@ -5,7 +5,7 @@ use Rattle.std.proofs.lemmas.Bool.{or_parts, cases_Bool, false≢true, ltb-false
 use Rattle.terms.specs.Lists.{every, is_in}
 use Rattle.image.specs.declared.cause.Cause.{Cause}
 use Rattle.image.specs.declared.cause.Cause.TheVariants.{TooLong, BadSize, BadChecksum, BadName, UnknownId}
-use Rattle.image.specs.Names.{holds_zero}
+use Rattle.terms.specs.Names.{holds_zero}
 use Rattle.image.specs.Bytes.{Record, path, deps, checksum}
 use Rattle.image.specs.Reading.{Reading, good, bad, word_at, long_at, words_of, trimmed, unpadded, read_name, read_path, read_deps, is_known, is_deps, size_of, odd_size, read_body, read_front}
 use Rattle.image.proofs.Readings.{is_good, front-word, some_least}

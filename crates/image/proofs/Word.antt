@@ -4,7 +4,7 @@ use native.Mathlib.Nat.{div-div-eq-div-mul}
 use Rattle.std.proofs.lemmas.List.{append-nil, take_at, get_or_push, length_push, replicate_more, append_assoc}
 use Rattle.std.proofs.lemmas.Bool.{and_parts, or_parts, ltb-true, eqb-false, ne_eqb}
 use Rattle.terms.specs.Lists.{every, ◌▷◌}
-use Rattle.image.specs.Names.{holds_zero}
+use Rattle.terms.specs.Names.{holds_zero}
 use Rattle.image.specs.Bytes.{word, long, words}
 use Rattle.image.specs.Reading.{word_at, long_at, words_of, trimmed, unpadded}
 

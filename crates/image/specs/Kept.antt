@@ -1,7 +1,7 @@
 -- What every table keeps. Assumes nothing.
 use Rattle.std.specs.Prelude.{◌≡◌, ℕ, ◌^◌, ◌≤◌, Bool, true, not, ◌&&◌, ltb, List, [], ◌∷◌, length, Some, None, Option, nat_le, nat_lt}
 use Rattle.terms.specs.Lists.{every, is_in}
-use Rattle.image.specs.Names.{is_name}
+use Rattle.terms.specs.Names.{is_name}
 use Rattle.image.specs.Tables.{Entry, Table}
 
 -- no two names are equal

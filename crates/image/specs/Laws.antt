@@ -4,7 +4,7 @@ use Rattle.terms.specs.declared.Refusal.{Refusal}
 use Rattle.terms.specs.Lists.{every, is_in}
 use Rattle.image.specs.declared.cause.Cause.TheVariants.{NoWord, TooLong}
 use Rattle.image.specs.declared.filled.Filled.{Filled}
-use Rattle.image.specs.Names.{is_name}
+use Rattle.terms.specs.Names.{is_name}
 use Rattle.image.specs.Bytes.{Record, path, deps, header, record_bytes, records_bytes}
 use Rattle.image.specs.Reading.{Reading, good, bad, is_known}
 use Rattle.image.specs.Tables.{Table, bare, learn, learn_all}

@@ -2,7 +2,7 @@
 use Rattle.std.specs.Prelude.{ℕ, Bool, true, false, cond, not, ◌&&◌, List, ◌∷◌, length, vec_items, nat_lt}
 use Rattle.terms.specs.Lists.{every, is_in}
 use Rattle.image.specs.declared.table.DepsTable.{DepsTable}
-use Rattle.image.specs.Names.{is_name}
+use Rattle.terms.specs.Names.{is_name}
 use Rattle.image.specs.Bytes.{path, deps}
 use Rattle.image.specs.Reading.{is_known}
 use Rattle.image.specs.Tables.{Entry, Table, learn}

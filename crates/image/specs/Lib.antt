@@ -1,4 +1,3 @@
-pub mod Names
 pub mod Bytes
 pub mod Reading
 pub mod Tables

@@ -3,7 +3,7 @@ use Rattle.std.specs.Prelude.{ℕ, zero, suc, ◌+◌, ◌-◌, ◌*◌, ◌/◌
 use Rattle.terms.specs.Lists.{empty, every, is_in}
 use Rattle.image.specs.declared.cause.Cause.{Cause}
 use Rattle.image.specs.declared.cause.Cause.TheVariants.{NoWord, TooLong, BadSize, BadChecksum, BadName, UnknownId}
-use Rattle.image.specs.Names.{holds_zero}
+use Rattle.terms.specs.Names.{holds_zero}
 use Rattle.image.specs.Bytes.{Record, path, deps, checksum}
 
 -- The causes by which a record is bad, in the order in which they are looked for: fewer than 4 bytes remain; the size exceeds the bytes that remain;

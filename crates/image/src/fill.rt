@@ -2,7 +2,7 @@
 ghost use Rattle.std.specs.Prelude.{◌≡◌, ◌≤◌, true, false, not, leb, ◌∷◌, length, if◌then◌else◌, Some, None};
 ghost use Rattle.std.specs.Option.{option_map};
 ghost use Rattle.terms.specs.Lists.{every, is_in};
-ghost use Rattle.image.specs.Names.{holds_zero};
+ghost use Rattle.terms.specs.Names.{holds_zero};
 ghost use Rattle.image.specs.Bytes.{path, deps};
 ghost use Rattle.image.specs.Reading.{is_known};
 ghost use Rattle.image.specs.Tables.{bare, learn};

@@ -1,6 +1,6 @@
 // A name of 1 to 120 bytes, none of them zero.
 ghost use Rattle.std.specs.Prelude.{◌≡◌, ◌≤◌, true, length, take};
-ghost use Rattle.image.specs.Names.{is_name};
+ghost use Rattle.terms.specs.Names.{is_name};
 
 #[derive(Clone, Copy)]
 pub struct Name {

@@ -1,11 +1,11 @@
 // Making a name, and its bytes.
 ghost use Rattle.std.specs.Prelude.{◌≡◌, ◌≤◌, true, ◌++◌, length, drop, if◌then◌else◌, Some, None};
 ghost use Rattle.std.specs.Option.{option_map};
-ghost use Rattle.image.specs.Names.{is_name};
+ghost use Rattle.terms.specs.Names.{is_name};
 ghost use Rattle.image.specs.View.{text};
 
 use super::name::Name;
-use super::words::has_zero;
+use terms::is_name;
 
 // Writes `from` over the front of `to`.
 fn copy_front(to: &mut [u8], from: &[u8])
@@ -20,7 +20,7 @@ impl Name {
     pub fn new(from: &[u8]) -> Option<Name>
         ensures { option_map text result ≡ (if is_name from.now then Some from.now else None) }
     {
-        if from.is_empty() || from.len() > 120 || has_zero(from) {
+        if !is_name(from) {
             return None;
         }
         let mut bytes = [0u8; 120];

@@ -1,7 +1,7 @@
 // Numbers in bytes, the lowest byte first.
 ghost use Rattle.std.specs.Prelude.{◌≡◌, ◌+◌, ◌/◌, ◌≤◌, length, take, nat_lt};
 ghost use Rattle.terms.specs.Lists.{every};
-ghost use Rattle.image.specs.Names.{holds_zero};
+ghost use Rattle.terms.specs.Names.{holds_zero};
 ghost use Rattle.image.specs.Reading.{word_at, long_at, words_of, unpadded};
 
 pub(super) fn word_at(bytes: &[u8], at: usize) -> u32

@@ -3,7 +3,7 @@ use Rattle.std.specs.Prelude.{ℕ, cond, List, map, Ok, Err, Result, nat_lt}
 use Rattle.terms.specs.declared.At.{At}
 use Rattle.terms.specs.declared.Refusal.{Refusal}
 use Rattle.terms.specs.declared.Refusal.TheVariants as refusal
-use Rattle.lists.specs.Words.{placed}
+use Rattle.terms.specs.Places.{at_place}
 use Rattle.listing.specs.declared.fault.ListingFault.{ListingFault}
 use Rattle.listing.specs.declared.fault.ListingFault.TheVariants.{BadLine, PastRows}
 use Rattle.listing.specs.declared.listing.Listing.{Listing}
@@ -11,7 +11,7 @@ use Rattle.listing.specs.declared.row.Row.{Row}
 use Rattle.listing.specs.Rows.{Listed}
 
 abbrev pub listed : List ℕ → Row → Listed
-listed text r = record { name = placed text r.name; mtime = r.mtime }
+listed text r = record { name = at_place text r.name; mtime = r.mtime }
 
 -- what a line gave: the rows then, or the fault
 abbrev pub rows_told : {A F : Type 0} → Result A F → List Listed → Result (List Listed) F

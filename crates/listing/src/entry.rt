@@ -6,7 +6,7 @@ ghost use Rattle.listing.specs.Shown.{listed};
 
 use super::decimal::number;
 use super::row::Row;
-use lists::{bytes_at, part};
+use lists::part;
 use terms::Place;
 use words::{Class, all_of, begins, span_end};
 
@@ -44,7 +44,7 @@ pub(super) fn row_at(text: &[u8], end: usize, at: usize) -> Option<Row>
         start: past + 1,
         length: line.len() - past - 1,
     };
-    if !is_name(bytes_at(text, name)) {
+    if !is_name(name.of(text)) {
         return None;
     }
     Some(Row { name, mtime })

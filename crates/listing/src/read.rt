@@ -10,7 +10,7 @@ use super::fault::ListingFault;
 use super::keys::Lines;
 use super::listing::Listing;
 use super::row::Row;
-use lists::{GrowList, Name, bytes_at, first};
+use lists::{GrowList, Name, first};
 use terms::{At, Refusal};
 use words::{Class, span_end};
 
@@ -38,7 +38,7 @@ fn add_row(rows: &mut GrowList<Row>, text: &[u8], end: usize, at: usize) -> Resu
         return Err(ListingFault::BadLine);
     };
     let name = Name {
-        bytes: bytes_at(text, row.name),
+        bytes: row.name.of(text),
     };
     if first(&Lines { bytes: text }, rows.as_slice(), name).is_some() {
         return Err(ListingFault::BadLine);

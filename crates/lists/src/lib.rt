@@ -10,5 +10,5 @@ mod parts;
 
 pub use grow::GrowList;
 pub use lookup::{Key, Keys, first};
-pub use names::{Name, Places, bytes_at, find_name};
+pub use names::{Name, Places, find_name};
 pub use parts::part;

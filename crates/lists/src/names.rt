@@ -2,19 +2,12 @@
 ghost use Rattle.std.specs.Prelude.{◌≡◌, ℕ, List};
 ghost use Rattle.std.specs.Str.{bytes_eq};
 ghost use Rattle.terms.specs.Lists.{place_from};
-ghost use Rattle.lists.specs.Words.{lex_le, placed};
+ghost use Rattle.terms.specs.Places.{at_place};
+ghost use Rattle.lists.specs.Words.{lex_le};
 ghost use Rattle.lists.specs.Orders.{lex_order};
 
 use super::lookup::{Key, Keys, first};
-use super::parts::part;
 use terms::Place;
-
-// The bytes at a place; fewer where the bytes end.
-pub fn bytes_at(bytes: &[u8], place: Place) -> &[u8]
-    ensures { result.now ≡ placed bytes.now place }
-{
-    part(bytes, place.start, place.length)
-}
 
 #[derive(Clone, Copy)]
 pub struct Name<'a> {
@@ -55,18 +48,18 @@ pub struct Places<'a> {
 }
 
 impl<'a> Keys<Place, Name<'a>> for Places<'a> {
-    ghost has = { λ c x k. bytes_eq k.bytes.now (placed c.bytes.now x) };
+    ghost has = { λ c x k. bytes_eq k.bytes.now (at_place c.bytes.now x) };
 
     fn key(&self, x: Place) -> Name<'a> {
         Name {
-            bytes: bytes_at(self.bytes, x),
+            bytes: x.of(self.bytes),
         }
     }
 }
 
 // The index of the first place where this name stands.
 pub fn find_name(bytes: &[u8], places: &[Place], name: &[u8]) -> Option<usize>
-    ensures { result ≡ place_from 0 (λ x. bytes_eq name.now (placed bytes.now x)) places.now }
+    ensures { result ≡ place_from 0 (λ x. bytes_eq name.now (at_place bytes.now x)) places.now }
 {
     first(&Places { bytes }, places, Name { bytes: name })
 }

@@ -5,7 +5,7 @@ ghost use Rattle.words.specs.Spelling.{name_at};
 ghost use Rattle.words.specs.Paths.{path_name};
 
 use super::rule::Rule;
-use lists::{Keys, bytes_at};
+use lists::Keys;
 use terms::Place;
 use words::Path;
 
@@ -19,7 +19,7 @@ impl<'a> Keys<Place, Path<'a>> for Text<'a> {
     ghost has = { λ c x k. bytes_eq (path_name k) (name_at c.bytes.now x) };
 
     fn key(&self, x: Place) -> Path<'a> {
-        Path::Spelled(bytes_at(self.bytes, x))
+        Path::Spelled(x.of(self.bytes))
     }
 }
 
@@ -27,6 +27,6 @@ impl<'a> Keys<Rule, Path<'a>> for Text<'a> {
     ghost has = { λ c x k. bytes_eq (path_name k) (name_at c.bytes.now x.name) };
 
     fn key(&self, x: Rule) -> Path<'a> {
-        Path::Spelled(bytes_at(self.bytes, x.name))
+        Path::Spelled(x.name.of(self.bytes))
     }
 }

@@ -8,7 +8,7 @@ ghost use Rattle.manifest.specs.Views.{declaration, making};
 
 use super::keys::Text;
 use super::rule::{Rule, Statement};
-use lists::{bytes_at, first, part};
+use lists::{first, part};
 use terms::Place;
 use words::Path;
 
@@ -49,7 +49,7 @@ pub(super) fn made_twice(
     ensures { result ≡ twice (map (making text.now words.now) statements.now) (map (name_at text.now) outputs.now) }
 {
     for j in 0..outputs.len() {
-        let name = Path::Spelled(bytes_at(text, outputs[j]));
+        let name = Path::Spelled(outputs[j].of(text));
         if maker(text, statements, words, name).is_some() {
             return true;
         }

@@ -22,7 +22,7 @@ use super::makers::{made_twice, rule_number};
 use super::reader::Reader;
 use super::rule::{Rule, Statement};
 use super::store::store;
-use lists::{GrowList, bytes_at, part};
+use lists::{GrowList, part};
 use terms::At;
 use words::{Class, Path, Word, span_end};
 
@@ -64,7 +64,7 @@ impl Reader<'_, '_, '_> {
         ensures sound { SoundIf result self.new }
         ensures said { told result (reading_of text.now self.new) ≡ declared_by (book_of text.now self.old) (name_at text.now word.place) (rule_number (book_of text.now self.old).rules (name_at text.now word.place)) }
     {
-        let name = Path::Spelled(bytes_at(text, word.place));
+        let name = Path::Spelled(word.place.of(text));
         if rule_number(text, self.rules.as_slice(), name).is_some() {
             return Err(Fault::RuleDeclared);
         }
@@ -140,7 +140,7 @@ impl Reader<'_, '_, '_> {
         ensures said { told result (reading_of text.now self.new) ≡ stated_by line (book_of text.now self.old) (built_shown (take end text.now) built.now) (rule_number (book_of text.now self.old).rules (word_name (take end text.now) built.now.rule)) }
     {
         let bytes = part(text, 0, end);
-        let name = Path::Spelled(bytes_at(bytes, built.rule.place));
+        let name = Path::Spelled(built.rule.place.of(bytes));
         let Some(rule) = rule_number(text, self.rules.as_slice(), name) else {
             return Err(Fault::RuleDeclared);
         };

@@ -4,7 +4,7 @@ use Rattle.std.specs.Str.{bytes_eq}
 use Rattle.std.proofs.lemmas.List.{length-append, length-map, length_push, append_assoc, append-nil, take-append-le, take-append-drop, take-map}
 use Rattle.std.proofs.lemmas.Bool.{false≢true, cases_Bool, and_parts, and_from, eqb-true, cond-true, cond-false}
 use Rattle.terms.specs.Lists.{every, is_in, ◌▷◌}
-use Rattle.image.specs.Names.{is_name}
+use Rattle.terms.specs.Names.{is_name}
 use Rattle.image.specs.Bytes.{Record, path}
 use Rattle.image.specs.Tables.{Table, learn, learn_all}
 use Rattle.image.specs.Kept.{Kept}

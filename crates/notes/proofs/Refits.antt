@@ -3,7 +3,7 @@ use Rattle.std.proofs.Common.{◌≡◌, ℕ, ◌^◌, ◌<◌, ◌≤◌, true,
 use Rattle.std.proofs.lemmas.List.{length-map, get_or_default}
 use Rattle.std.proofs.lemmas.Bool.{cases_Bool, and_parts, and_from, ltb-true, leb-true}
 use Rattle.terms.specs.Lists.{every, is_in}
-use Rattle.image.specs.Names.{is_name}
+use Rattle.terms.specs.Names.{is_name}
 use Rattle.image.specs.Tables.{Entry, Table, bare, learn_all}
 use Rattle.image.specs.Bytes.{Record}
 use Rattle.image.specs.Kept.{fits_entry, Kept}

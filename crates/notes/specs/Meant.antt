@@ -1,18 +1,15 @@
 -- The note that is meant by bytes and places, and what is found of an output. Assumes nothing.
-use Rattle.std.specs.Prelude.{ℕ, List, map, take, drop, Some, None, Option, slice_index_or}
+use Rattle.std.specs.Prelude.{ℕ, List, map, Some, None, Option, slice_index_or}
 use Rattle.terms.specs.declared.Found.{Found}
 use Rattle.terms.specs.declared.Place.{Place}
 use Rattle.terms.specs.Lists.{place_in}
+use Rattle.terms.specs.Places.{at_place}
 use Rattle.image.specs.Tables.{Entry, Table}
 use Rattle.notes.specs.Notes.{Says, Note, by_names}
 
--- the bytes at a place, as far as there are any
-abbrev pub cut : List ℕ → Place → List ℕ
-cut bytes p = take p.length (drop p.start bytes)
-
 -- the note that is meant by bytes and places in them
 abbrev pub meant : List ℕ → Place → ℕ → List Place → Note
-meant bytes output mtime inputs = record { output = cut bytes output; says = record { mtime = mtime; inputs = map (cut bytes) inputs } }
+meant bytes output mtime inputs = record { output = at_place bytes output; says = record { mtime = mtime; inputs = map (at_place bytes) inputs } }
 
 abbrev pub found_at : ℕ → Option Entry → Option Found
 found_at id None = None

@@ -1,7 +1,7 @@
 -- Whole images, notes within the limits, and notes that agree with a table. Assumes nothing.
 use Rattle.std.specs.Prelude.{◌≡◌, ℕ, ◌^◌, ◌<◌, ◌≤◌, true, List, [], ◌∷◌, length, None}
 use Rattle.terms.specs.Lists.{every}
-use Rattle.image.specs.Names.{is_name}
+use Rattle.terms.specs.Names.{is_name}
 use Rattle.image.specs.Tables.{Table}
 use Rattle.image.specs.Kept.{Kept}
 use Rattle.image.specs.Scans.{has_header, scanned, known, over_limit}

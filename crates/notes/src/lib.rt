@@ -3,11 +3,9 @@
 
 ghost use Rattle.notes.specs.Laws.{Accepted, NoteAdds, NoteReadsBack, NotesReadBack, NotingKeeps, CutAnywhere, MendingKeeps, LatestNoted, AgreeGoesOn, Compaction};
 
-mod given;
 mod lookup;
 mod same;
 
-pub use given::part;
 pub use lookup::find;
 pub use same::{is_unchanged, name_of};
 

@@ -2,9 +2,9 @@
 ghost use Rattle.std.specs.Prelude.{◌≡◌, map};
 ghost use Rattle.image.specs.Learning.{view};
 ghost use Rattle.notes.specs.Notes.{name_of, same_names, unchanged};
-ghost use Rattle.notes.specs.Meant.{cut, meant};
+ghost use Rattle.terms.specs.Places.{at_place};
+ghost use Rattle.notes.specs.Meant.{meant};
 
-use super::given::part;
 use image::DepsTable;
 use terms::Place;
 
@@ -20,13 +20,13 @@ pub fn name_of(table: &DepsTable, id: usize) -> &[u8]
 
 // Whether the names at these places are those with these ids, in order.
 fn same_names(table: &DepsTable, ids: &[u32], bytes: &[u8], places: &[Place]) -> bool
-    ensures { result ≡ same_names (map (cut bytes.now) places.now) (map (name_of (view table.now)) ids.now) }
+    ensures { result ≡ same_names (map (at_place bytes.now) places.now) (map (name_of (view table.now)) ids.now) }
 {
     if places.len() != ids.len() {
         return false;
     }
     for i in 0..places.len() {
-        if part(bytes, places[i]) != name_of(table, ids[i] as usize) {
+        if places[i].of(bytes) != name_of(table, ids[i] as usize) {
             return false;
         }
     }
@@ -43,7 +43,7 @@ pub fn is_unchanged(
 ) -> bool
     ensures { result ≡ unchanged (view table.now) (meant bytes.now output mtime inputs.now) }
 {
-    match table.id_of(part(bytes, output)) {
+    match table.id_of(output.of(bytes)) {
         None => false,
         Some(id) => match table.entry(id) {
             None => false,

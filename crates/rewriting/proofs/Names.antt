@@ -4,7 +4,7 @@ use Rattle.std.proofs.lemmas.List.{append_assoc, length-append, drop_more}
 use Rattle.std.proofs.lemmas.List.Sums.{sum_by-append}
 use Rattle.std.proofs.lemmas.Bool.{cases_Bool, true≢false, false≢true, cond-true, cond-false, and_parts, ltb-true}
 use Rattle.terms.specs.Lists.{every, is_in}
-use Rattle.image.specs.Names.{is_name}
+use Rattle.terms.specs.Names.{is_name}
 use Rattle.image.specs.Tables.{Table}
 use Rattle.image.specs.Kept.{Kept}
 use Rattle.image.specs.Learning.{path_learned}

@@ -1,7 +1,7 @@
 // How many bytes a recompaction has, and what is known then.
 ghost use Rattle.std.specs.Prelude.{◌≡◌, ◌*◌, ◌<◌, ◌≤◌, true, false, ◌++◌, map, length, sum_by, nat_lt};
 ghost use Rattle.terms.specs.Lists.{every};
-ghost use Rattle.image.specs.Names.{is_name};
+ghost use Rattle.terms.specs.Names.{is_name};
 ghost use Rattle.image.specs.View.{entry_of};
 ghost use Rattle.image.specs.Learning.{view};
 ghost use Rattle.notes.specs.Notes.{name_of, unknown, new_names, id_in, unchanged, note_bytes, note_table};

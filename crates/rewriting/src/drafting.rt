@@ -2,7 +2,7 @@
 ghost use Rattle.std.specs.Prelude.{◌≡◌, ◌+◌, ◌≤◌, true, false, ◌++◌, map, length, nat_lt};
 ghost use Rattle.terms.specs.Lists.{every};
 ghost use Rattle.medium.specs.State.{all};
-ghost use Rattle.image.specs.Names.{is_name};
+ghost use Rattle.terms.specs.Names.{is_name};
 ghost use Rattle.image.specs.Bytes.{path, deps, record_bytes};
 ghost use Rattle.image.specs.View.{entry_of};
 ghost use Rattle.image.specs.Learning.{view};

@@ -6,10 +6,11 @@ use Rattle.terms.specs.declared.Place.{Place}
 use Rattle.terms.specs.declared.Refusal.{Refusal}
 use Rattle.terms.specs.declared.Refusal.TheVariants.{TooManyPaths, Outside, NotName}
 use Rattle.terms.specs.Lists.{every}
-use Rattle.image.specs.Names.{is_name}
+use Rattle.terms.specs.Names.{is_name}
 use Rattle.image.specs.Tables.{Table}
 use Rattle.notes.specs.Notes.{note_table}
-use Rattle.notes.specs.Meant.{cut, meant}
+use Rattle.terms.specs.Places.{at_place}
+use Rattle.notes.specs.Meant.{meant}
 use Rattle.notes.specs.Wholeness.{Fitting}
 use Rattle.depslog.specs.State.{LogState}
 use Rattle.depslog.specs.Checks.{refuse}
@@ -37,14 +38,14 @@ not-false : (b : Bool) → not b ≡ false → b ≡ true
 not-false true e = refl
 not-false false e = sym e
 
-names-passed : (bytes : List ℕ) (i : ℕ) (ps : List Place) (o : Option Refusal) → name_fault bytes i ps o ≡ None → (every is_name (map (cut bytes) ps) ≡ true) × (o ≡ None)
+names-passed : (bytes : List ℕ) (i : ℕ) (ps : List Place) (o : Option Refusal) → name_fault bytes i ps o ≡ None → (every is_name (map (at_place bytes) ps) ≡ true) × (o ≡ None)
 names-passed bytes i [] o e = (refl, e)
 names-passed bytes i (p ∷ ps) o e =
     let rest = name_fault bytes (i + 1) ps o in
-    let a = passed (Outside i) (outside bytes p) (refuse (NotName i) (not (is_name (cut bytes p))) rest) e in
-    let b = passed (NotName i) (not (is_name (cut bytes p))) rest a.1 in
+    let a = passed (Outside i) (outside bytes p) (refuse (NotName i) (not (is_name (at_place bytes p))) rest) e in
+    let b = passed (NotName i) (not (is_name (at_place bytes p))) rest a.1 in
     let c = names-passed bytes (i + 1) ps o b.1 in
-    (and_from (is_name (cut bytes p)) (every is_name (map (cut bytes) ps)) (not-false (is_name (cut bytes p)) b.0) c.0, c.1)
+    (and_from (is_name (at_place bytes p)) (every is_name (map (at_place bytes) ps)) (not-false (is_name (at_place bytes p)) b.0) c.0, c.1)
 
 -- a note that no check refuses is within the limits
 pub note_fits : (t : Table) (bytes : List ℕ) (output : Place) (mtime : ℕ) (inputs : List Place) → mtime < 2 ^ 64 → note_fault true t bytes output mtime inputs ≡ None → Fitting t (meant bytes output mtime inputs)
@@ -54,4 +55,4 @@ note_fits t bytes output mtime inputs time e =
     let a = passed _ (ltb 64 (length inputs)) (name_fault bytes 0 (output ∷ inputs) last) e in
     let b = names-passed bytes 0 (output ∷ inputs) last a.1 in
     let c = passed TooManyPaths (ltb 256 known) None b.1 in
-    record { named = b.0; few = omega (arith, ltb-false 64 (length inputs) a.0, length-map inputs (cut bytes)); timed = time; room = omega (arith, ltb-false 256 known c.0) }
+    record { named = b.0; few = omega (arith, ltb-false 64 (length inputs) a.0, length-map inputs (at_place bytes)); timed = time; room = omega (arith, ltb-false 256 known c.0) }

@@ -1,2 +1,5 @@
+pub mod Few
 pub mod Lists
+pub mod Names
+pub mod Places
 pub mod Refusals

@@ -2,7 +2,17 @@
 #![tactic(auto)]
 
 ghost use Rattle.std.specs.Prelude.{◌≡◌};
+ghost use Rattle.terms.specs.Places.{at_place};
 ghost use Rattle.terms.specs.Refusals.{number_of, place_of};
+
+mod few;
+mod fews;
+mod names;
+
+pub use few::Few;
+pub use names::is_name;
+use std::error::Error;
+use std::fmt;
 
 // A value with the offset where it stands; of a text, with its line.
 #[derive(Clone, Copy, PartialEq, Eq, Debug)]
@@ -18,12 +28,26 @@ pub struct Place {
     pub length: usize,
 }
 
+impl Place {
+    // The bytes at the place, as far as there are any.
+    pub fn of(self, bytes: &[u8]) -> &[u8]
+        ensures { result.now ≡ at_place bytes.now self }
+    {
+        let rest = &bytes[self.start.min(bytes.len())..];
+        &rest[..self.length.min(rest.len())]
+    }
+}
+
 // An output's entry as it was found: its index, by which its inputs can be asked for, and its mtime.
 #[derive(Clone, Copy, PartialEq, Eq, Debug)]
 pub struct Found {
     pub index: usize,
     pub mtime: u64,
 }
+
+// There is no room for what should be added.
+#[derive(Clone, Copy, PartialEq, Eq, Debug)]
+pub struct NoRoom;
 
 // Why a call is refused.
 #[derive(Clone, Copy, PartialEq, Eq, Debug)]
@@ -114,3 +138,43 @@ impl Refusal {
         }
     }
 }
+
+impl fmt::Display for Refusal {
+    fn fmt<W: fmt::Write>(&self, f: &mut fmt::Formatter<W>) -> fmt::Result {
+        f.write_str(match self {
+            Refusal::PowerOff => "the power is off or failed",
+            Refusal::PowerLost => "the power failed after the live bytes were copied",
+            Refusal::Full => "the capacity is too small for the call's bytes",
+            Refusal::Closed => "the log is closed",
+            Refusal::AlreadyOpen => "the log is open already",
+            Refusal::NoHeader => "it does not begin with the header of a deps log, version 4",
+            Refusal::OverLimit(_) =>
+                "the record there is over a limit: 120 bytes of a name, 256 paths, 64 inputs",
+            Refusal::CopyShort(_) => "the copy buffer is shorter than the live bytes",
+            Refusal::NotName(_) =>
+                "the name is empty, has more than 120 bytes, or holds a zero byte",
+            Refusal::Outside(_) => "the place is outside the bytes",
+            Refusal::TooManyInputs => "there are more than 64 inputs",
+            Refusal::TooManyPaths => "more than 256 paths would be known",
+            Refusal::ManifestLine(_) => "the line of the manifest is not understood",
+            Refusal::RuleDeclared(_) => "the rule is not declared above, or is declared again",
+            Refusal::MadeTwice(_) => "an output is made twice",
+            Refusal::PastLimit(_) =>
+                "the line is past a limit: 64 rules, 128 statements, 8 outputs, 32 inputs, 512 rows, 120 bytes of a name",
+            Refusal::ListingLine(_) =>
+                "the line of the listing is not understood, or its name was listed before",
+            Refusal::OnCycle(_) => "the statement is on a cycle",
+            Refusal::MemoryShort(_) => "the caller's memory is too short",
+        })
+    }
+}
+
+impl Error for Refusal {}
+
+impl fmt::Display for NoRoom {
+    fn fmt<W: fmt::Write>(&self, f: &mut fmt::Formatter<W>) -> fmt::Result {
+        f.write_str("there is no room")
+    }
+}
+
+impl Error for NoRoom {}

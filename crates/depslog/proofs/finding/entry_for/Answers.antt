@@ -7,7 +7,7 @@ use Rattle.image.specs.Tables.{Entry}
 use Rattle.image.specs.View.{entry_of}
 use Rattle.image.specs.Learning.{view}
 use Rattle.notes.specs.Notes.{id_in}
-use Rattle.notes.specs.Meant.{cut}
+use Rattle.terms.specs.Places.{at_place}
 use Rattle.depslog.specs.FreshNames.{fresh_names}
 use Rattle.depslog.proofs.Freshly.{ids_of, ids_more, ids-long}
 use Rattle.depslog.proofs.finding.entry_for.Goals as goal
@@ -25,7 +25,7 @@ loop-place-preserved c =
     let l : length was.inputs ≡ k = ap length i ∙ ids-long names bytes (take k inputs) ∙ length-take-le k inputs (omega (arith, h)) in
     let more : Entry = record { mtime = was.mtime; inputs = was.inputs ▷ c.id_in.result } in
     let room : c.push.result ≡ true = c.push.ensures.room ∙ lt-ltb (length was.inputs) 64 (omega (arith, l, h, c.requires)) in
-    let id : c.id_in.result ≡ id_in names (cut bytes (get_or inputs k none)) = c.id_in.ensures.value ∙ ap (id_in names) c.part.ensures in
+    let id : c.id_in.result ≡ id_in names (at_place bytes (get_or inputs k none)) = c.id_in.ensures.value ∙ ap (id_in names) c.of.ensures in
     let F : ℕ → List ℕ → Entry = λ m xs. record { mtime = m; inputs = xs } in
     c.push.ensures.after ∙ cond-true c.push.result more was room ∙
     ap (λ (m : ℕ). F m (was.inputs ▷ c.id_in.result)) (ap (λ (e : Entry). e.mtime) c.loop-place.invariant) ∙

@@ -29,7 +29,7 @@ loop-k-preserved c =
     let d : drop k ns ≡ n ∷ rest = drop_more ns k [] h in
     let w : AllWritable t (map path (n ∷ rest)) = subst (λ (xs : List (List ℕ)). AllWritable t (map path xs)) d c.loop-k.invariant.0 in
     let e : view c.learn_path.new.self ≡ learn t (path n) =
-    learned t n c.part.result.now rest c.learn_path.result (view c.learn_path.new.self) (c.part.ensures ∙ sym (fresh_at bytes f k none c.loop-k-test.true)) w c.learn_path.ensures in (
+    learned t n c.of.result.now rest c.learn_path.result (view c.learn_path.new.self) (c.of.ensures ∙ sym (fresh_at bytes f k none c.loop-k-test.true)) w c.learn_path.ensures in (
       subst (λ (u : Table). AllWritable u (map path rest)) (sym e) w.1,
       ap (λ (u : Table). learn_all u (map path rest)) e ∙ ap (λ (xs : List (List ℕ)). learn_all t (map path xs)) (sym d) ∙ c.loop-k.invariant.1,
     )

@@ -3,7 +3,7 @@ use Rattle.std.proofs.lemmas.List.{take_all}
 use Rattle.std.proofs.lemmas.Result.{err_from_is_err_and}
 use Rattle.medium.specs.State.{with_appended}
 use Rattle.terms.specs.declared.Place.{Place}
-use Rattle.image.specs.Names.{is_name}
+use Rattle.terms.specs.Names.{is_name}
 use Rattle.image.specs.Bytes.{path, record_bytes}
 use Rattle.depslog.specs.Appending.{AppendedAll}
 use Rattle.depslog.specs.FreshNames.{fresh_names}
@@ -20,10 +20,10 @@ append_path-requires g c =
     let k = c.loop-k.k in
     let none : Place = record { start = 0; length = 0 } in
     let h : k < length ns = omega (arith, fresh_long bytes f, c.loop-k-test.true) in
-    let e : c.part.result.now ≡ get_or ns k [] = c.part.ensures ∙ sym (fresh_at bytes f k none c.loop-k-test.true) in
+    let e : c.of.result.now ≡ get_or ns k [] = c.of.ensures ∙ sym (fresh_at bytes f k none c.loop-k-test.true) in
     record {
       named = ap is_name e ∙ every_get is_name ns k [] c.requires.named h;
-      room = room_at (st c.args.medium.now) (st c.loop-k.medium) c.args.first ns k c.part.result.now h e c.loop-k.invariant c.requires.room;
+      room = room_at (st c.args.medium.now) (st c.loop-k.medium) c.args.first ns k c.of.result.now h e c.loop-k.invariant c.requires.room;
     }
 
 pub returns-in_err-append_path : goal.returns-in_err-append_path
@@ -37,7 +37,7 @@ returns-in_err-append_path g c =
     let id = c.args.first in
     let none : Place = record { start = 0; length = 0 } in
     let h : k < length ns = omega (arith, fresh_long bytes f, c.loop-k-test.true) in
-    let e : c.part.result.now ≡ get_or ns k [] = c.part.ensures ∙ sym (fresh_at bytes f k none c.loop-k-test.true) in
+    let e : c.of.result.now ≡ get_or ns k [] = c.of.ensures ∙ sym (fresh_at bytes f k none c.loop-k-test.true) in
     let u = st c.append_path.new.medium in
     let fault = c.in_err-append_path.field-0.0 in
     let a = subst (λ (n : List ℕ). AppendedAll {A = Unit {0}} (record_bytes (id + k) (path n)) (st c.loop-k.medium) (Err fault) u) e c.in_err-append_path.ensures in
@@ -56,7 +56,7 @@ loop-k-preserved g c =
     let id = c.args.first in
     let none : Place = record { start = 0; length = 0 } in
     let h : k < length ns = omega (arith, fresh_long bytes f, c.loop-k-test.true) in
-    let e : c.part.result.now ≡ get_or ns k [] = c.part.ensures ∙ sym (fresh_at bytes f k none c.loop-k-test.true) in
+    let e : c.of.result.now ≡ get_or ns k [] = c.of.ensures ∙ sym (fresh_at bytes f k none c.loop-k-test.true) in
     let a = c.in_ok-append_path.ensures.after ∙ ap (λ (n : List ℕ). with_appended (record_bytes (id + k) (path n)) (st c.loop-k.medium)) e in
     appended_more s (st c.loop-k.medium) (st c.append_path.new.medium) (paths id (take k ns)) (record_bytes (id + k) (path (get_or ns k []))) c.loop-k.invariant a ∙
     ap (λ (xs : List ℕ). with_appended xs s) (sym (paths-more id ns k h))

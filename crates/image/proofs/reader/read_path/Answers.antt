@@ -1,7 +1,7 @@
 use Rattle.std.proofs.Common.{◌-◌, true, false, length, take, is_some, sym, refl, ap, ◌∙◌, arith}
 use Rattle.std.proofs.lemmas.Bool.{or_left, or_right, or_from}
 use Rattle.terms.specs.Lists.{is_in}
-use Rattle.image.specs.Names.{holds_zero}
+use Rattle.terms.specs.Names.{holds_zero}
 use Rattle.image.specs.Learning.{view}
 use Rattle.image.proofs.Readings.{name-part, known_by, name-bad, name-good}
 use Rattle.image.proofs.reader.read_path.Goals as goal

@@ -1,6 +1,6 @@
 use Rattle.std.proofs.Common.{sym, ◌∙◌, arith}
 use Rattle.std.proofs.lemmas.List.{at_drop_all}
-use Rattle.image.specs.Names.{holds_zero}
+use Rattle.terms.specs.Names.{holds_zero}
 use Rattle.image.proofs.Loops.{zero-here, zero-past}
 use Rattle.image.proofs.words.has_zero.Goals as goal
 

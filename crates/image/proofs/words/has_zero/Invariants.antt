@@ -1,5 +1,5 @@
 use Rattle.std.proofs.Common.{◌≡◌, drop}
-use Rattle.image.specs.Names.{holds_zero}
+use Rattle.terms.specs.Names.{holds_zero}
 use Rattle.image.proofs.words.has_zero.Given as goal
 
 abbrev pub invariant-loop-b : goal.invariant-loop-b

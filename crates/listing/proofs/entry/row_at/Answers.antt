@@ -34,7 +34,7 @@ returns-then-not-is_name c =
     let L = c.part-line.result.now in
     let past = c.span_end-past.result in
     let h = inside text L c.args.end c.args.at past c.part-line.ensures c.span_end-past.ensures.end c.begins-2.result c.begins-2.ensures c.if-not-begins.false in
-    let n = named text L c.args.end c.args.at past c.part-line.ensures c.span_end-past.ensures.end c.bytes_at.result.now h c.bytes_at.ensures in
+    let n = named text L c.args.end c.args.at past c.part-line.ensures c.span_end-past.ensures.end c.of.result.now h c.of.ensures in
     no_name (drop c.args.at (take c.args.end text)) (ap is_name (sym n) ∙ sym c.is_name.ensures ∙ c.if-not-is_name.true)
 
 pub returns : goal.returns
@@ -43,11 +43,11 @@ returns c =
     let L = c.part-line.result.now in
     let past = c.span_end-past.result in
     let h = inside text L c.args.end c.args.at past c.part-line.ensures c.span_end-past.ensures.end c.begins-2.result c.begins-2.ensures c.if-not-begins.false in
-    let n = named text L c.args.end c.args.at past c.part-line.ensures c.span_end-past.ensures.end c.bytes_at.result.now h c.bytes_at.ensures in
+    let n = named text L c.args.end c.args.at past c.part-line.ensures c.span_end-past.ensures.end c.of.result.now h c.of.ensures in
     let v = value_is text L c.args.end c.args.at past c.part-line.ensures c.span_end-past.ensures.end c.part.result.now c.number.result c.part.ensures c.number.ensures in
     let l = drop c.args.at (take c.args.end text) in
     let k = found_number (leb (decimal 0 (digits_of l)) 9223372036854775807) (decimal 0 (digits_of l)) c.in-Some.mtime (sym c.in-Some.is ∙ v) in
     a_row l (ap (λ (xs : List ℕ). bytes_eq (take 1 (drop c.args.at xs)) (codes "0")) (sym c.part-line.ensures) ∙ sym c.begins.ensures ∙ c.if-begins.false)
     (le-leb 1 (decimal 0 (digits_of l)) (omega (arith, k.1, c.if-mtime-lt-EARLIEST.false))) k.0
     (space_is text L c.args.end c.args.at past c.part-line.ensures c.span_end-past.ensures.end c.begins-2.result c.begins-2.ensures ∙ c.if-not-begins.false)
-    (ap is_name (sym n) ∙ sym c.is_name.ensures ∙ c.if-not-is_name.false) _ c.in-Some.mtime (sym c.bytes_at.ensures ∙ n) k.1
+    (ap is_name (sym n) ∙ sym c.is_name.ensures ∙ c.if-not-is_name.false) _ c.in-Some.mtime (sym c.of.ensures ∙ n) k.1

@@ -3,7 +3,7 @@ use Rattle.std.specs.Str.{bytes_eq}
 use Rattle.std.proofs.lemmas.List.{length-map, map_push}
 use Rattle.terms.specs.Lists.{place_from}
 use Rattle.lists.specs.Grown.{items, room}
-use Rattle.lists.specs.Words.{placed}
+use Rattle.terms.specs.Places.{at_place}
 use Rattle.lists.proofs.Finds.{place-some, some-map}
 use Rattle.listing.specs.declared.fault.ListingFault.{ListingFault}
 use Rattle.listing.specs.declared.row.Row.{Row}
@@ -14,14 +14,14 @@ use Rattle.listing.proofs.read.add_row.Goals as goal
 use Rattle.listing.proofs.read.add_row.Goals.{After-is_some}
 
 -- whether the name was listed before
-known : (c : After-is_some) → is_listed (map (listed c.args.text.now) (items c.args.rows.now)) (placed c.args.text.now c.in-Some.row.name) ≡ c.is_some.result
+known : (c : After-is_some) → is_listed (map (listed c.args.text.now) (items c.args.rows.now)) (at_place c.args.text.now c.in-Some.row.name) ≡ c.is_some.result
 known c =
     let text = c.args.text.now in
-    let P : List ℕ → Row → Bool = λ n x. bytes_eq n (placed text x.name) in
-    some-map (listed text) (λ r. bytes_eq (placed text c.in-Some.row.name) r.name) (items c.args.rows.now) ∙
-    sym (place-some 0 (P (placed text c.in-Some.row.name)) (items c.args.rows.now)) ∙
-    ap (λ (n : List ℕ). is_some (place_from 0 (P n) (items c.args.rows.now))) (sym c.bytes_at.ensures) ∙
-    ap (λ (xs : List Row). is_some (place_from 0 (P c.bytes_at.result.now) xs)) (sym c.as_slice.ensures) ∙
+    let P : List ℕ → Row → Bool = λ n x. bytes_eq n (at_place text x.name) in
+    some-map (listed text) (λ r. bytes_eq (at_place text c.in-Some.row.name) r.name) (items c.args.rows.now) ∙
+    sym (place-some 0 (P (at_place text c.in-Some.row.name)) (items c.args.rows.now)) ∙
+    ap (λ (n : List ℕ). is_some (place_from 0 (P n) (items c.args.rows.now))) (sym c.of.ensures) ∙
+    ap (λ (xs : List Row). is_some (place_from 0 (P c.of.result.now) xs)) (sym c.as_slice.ensures) ∙
     ap is_some (sym c.first.ensures.place) ∙ sym c.is_some.ensures
 
 pub returns-then-is_some : goal.returns-then-is_some

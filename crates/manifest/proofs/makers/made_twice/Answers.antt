@@ -12,7 +12,7 @@ use Rattle.manifest.proofs.makers.made_twice.Goals.{After-is_some, After-is_amon
 made : (c : After-is_some) → is_made (map (making c.args.text.now c.args.words.now) c.args.statements.now) (name_at c.args.text.now (get_or c.args.outputs.now c.loop-j.j no_place)) ≡ c.is_some.result
 made c =
     let M = map (making c.args.text.now c.args.words.now) c.args.statements.now in
-    ap (λ bs. is_made M (unescaped bs)) (sym c.bytes_at.ensures) ∙ sym (made_by M (unescaped c.bytes_at.result.now)) ∙ ap is_some (sym c.maker.ensures) ∙ sym c.is_some.ensures
+    ap (λ bs. is_made M (unescaped bs)) (sym c.of.ensures) ∙ sym (made_by M (unescaped c.of.result.now)) ∙ ap is_some (sym c.maker.ensures) ∙ sym c.is_some.ensures
 
 -- whether it stands among those behind it
 among : (c : After-is_among) → is_in (name_at c.args.text.now (get_or c.args.outputs.now c.loop-j.j no_place)) (map (name_at c.args.text.now) (drop (c.loop-j.j + 1) c.args.outputs.now)) ≡ c.is_among.result
@@ -21,7 +21,7 @@ among c =
     let xs = c.args.outputs.now in
     let o = name_at text (get_or xs c.loop-j.j no_place) in
     let e : drop (c.loop-j.j + 1) xs ≡ c.part.result.now = sym (c.part.ensures ∙ take_all (length xs) (drop (c.loop-j.j + 1) xs) (omega (arith, length-drop (c.loop-j.j + 1) xs))) in
-    ap (λ ws. is_in o (map (name_at text) ws)) e ∙ ap (λ bs. is_in (unescaped bs) (map (name_at text) c.part.result.now)) (sym c.bytes_at.ensures) ∙ sym c.is_among.ensures
+    ap (λ ws. is_in o (map (name_at text) ws)) e ∙ ap (λ bs. is_in (unescaped bs) (map (name_at text) c.part.result.now)) (sym c.of.ensures) ∙ sym c.is_among.ensures
 
 pub returns-then-is_some : goal.returns-then-is_some
 returns-then-is_some c =

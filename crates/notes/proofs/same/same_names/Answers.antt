@@ -9,16 +9,16 @@ use Rattle.image.specs.Tables.{Table}
 use Rattle.image.specs.Learning.{view}
 use Rattle.image.proofs.Lookup.{decided}
 use Rattle.notes.specs.Notes.{name_of}
-use Rattle.notes.specs.Meant.{cut}
+use Rattle.terms.specs.Places.{at_place}
 use Rattle.notes.proofs.Compared.{lengths_differ, next-same, next_differs, none_left}
 use Rattle.notes.proofs.same.same_names.Goals as goal
 use Rattle.std.proofs.lemmas.Bool.Decides.{Decides-eqb}
 
 -- what a comparison at an index tells of the names there
 told : (t : Table) (bytes : List ℕ) (places : List Place) (ids : List ℕ) (i : ℕ) (d : Place) (p n : List ℕ) (b : Bool) → i < length places → i < length ids →
-    p ≡ cut bytes (get_or places i d) → n ≡ name_of t (get_or ids i 0) → Decides b (p ≡ n) → bytes_eq (get_or (map (cut bytes) places) i []) (get_or (map (name_of t) ids) i []) ≡ b
+    p ≡ at_place bytes (get_or places i d) → n ≡ name_of t (get_or ids i 0) → Decides b (p ≡ n) → bytes_eq (get_or (map (at_place bytes) places) i []) (get_or (map (name_of t) ids) i []) ≡ b
 told t bytes places ids i d p n b h l e f k =
-    let x : get_or (map (cut bytes) places) i [] ≡ p = get_or-map (cut bytes) places i d [] h ∙ sym e in
+    let x : get_or (map (at_place bytes) places) i [] ≡ p = get_or-map (at_place bytes) places i d [] h ∙ sym e in
     let y : get_or (map (name_of t) ids) i [] ≡ n = get_or-map (name_of t) ids i 0 [] l ∙ sym f in
     ap (λ (z : List ℕ). bytes_eq z (get_or (map (name_of t) ids) i [])) x ∙ ap (bytes_eq p) y ∙ decided b p n k
 
@@ -28,7 +28,7 @@ returns-then-places-ids c =
     let t = view c.args.table.now in
     let places = c.args.places.now in
     let ids = c.args.ids.now in
-    sym (lengths_differ (map (cut bytes) places) (map (name_of t) ids) (λ e. c.if-places-ids.true (omega (arith, e, length-map places (cut bytes), length-map ids (name_of t)))))
+    sym (lengths_differ (map (at_place bytes) places) (map (name_of t) ids) (λ e. c.if-places-ids.true (omega (arith, e, length-map places (at_place bytes), length-map ids (name_of t)))))
 
 pub returns-then-ne : goal.returns-then-ne
 returns-then-ne c =
@@ -38,10 +38,10 @@ returns-then-ne c =
     let ids = c.args.ids.now in
     let i = c.loop-i.i in
     let h : i < length ids = omega (arith, c.loop-i-test.true, c.if-places-ids.false) in
-    let q = pointwise eqb c.part.result.now c.name_of.result.now in
-    let k = told t bytes places ids i (record { start = 0; length = 0 }) c.part.result.now c.name_of.result.now q c.loop-i-test.true h c.part.ensures c.name_of.ensures
-    (slice_eq-Decides Decides-eqb c.part.result.now c.name_of.result.now q refl) in
-    sym (next_differs (map (cut bytes) places) (map (name_of t) ids) i (omega (arith, c.loop-i-test.true, length-map places (cut bytes))) (omega (arith, h, length-map ids (name_of t)))
+    let q = pointwise eqb c.of.result.now c.name_of.result.now in
+    let k = told t bytes places ids i (record { start = 0; length = 0 }) c.of.result.now c.name_of.result.now q c.loop-i-test.true h c.of.ensures c.name_of.ensures
+    (slice_eq-Decides Decides-eqb c.of.result.now c.name_of.result.now q refl) in
+    sym (next_differs (map (at_place bytes) places) (map (name_of t) ids) i (omega (arith, c.loop-i-test.true, length-map places (at_place bytes))) (omega (arith, h, length-map ids (name_of t)))
     (k ∙ not-true q (sym c.ne.ensures ∙ c.if-ne.true))) ∙ c.loop-i.invariant
 
 pub loop-i-preserved : goal.loop-i-preserved
@@ -52,10 +52,10 @@ loop-i-preserved c =
     let ids = c.args.ids.now in
     let i = c.loop-i.i in
     let h : i < length ids = omega (arith, c.loop-i-test.true, c.if-places-ids.false) in
-    let q = pointwise eqb c.part.result.now c.name_of.result.now in
-    let k = told t bytes places ids i (record { start = 0; length = 0 }) c.part.result.now c.name_of.result.now q c.loop-i-test.true h c.part.ensures c.name_of.ensures
-    (slice_eq-Decides Decides-eqb c.part.result.now c.name_of.result.now q refl) in
-    next-same (map (cut bytes) places) (map (name_of t) ids) i (omega (arith, c.loop-i-test.true, length-map places (cut bytes))) (omega (arith, h, length-map ids (name_of t)))
+    let q = pointwise eqb c.of.result.now c.name_of.result.now in
+    let k = told t bytes places ids i (record { start = 0; length = 0 }) c.of.result.now c.name_of.result.now q c.loop-i-test.true h c.of.ensures c.name_of.ensures
+    (slice_eq-Decides Decides-eqb c.of.result.now c.name_of.result.now q refl) in
+    next-same (map (at_place bytes) places) (map (name_of t) ids) i (omega (arith, c.loop-i-test.true, length-map places (at_place bytes))) (omega (arith, h, length-map ids (name_of t)))
     (k ∙ not-false q (sym c.ne.ensures ∙ c.if-ne.false)) ∙ c.loop-i.invariant
 
 pub returns : goal.returns
@@ -65,5 +65,5 @@ returns c =
     let places = c.args.places.now in
     let ids = c.args.ids.now in
     let i = c.loop-i.i in
-    sym (none_left (map (cut bytes) places) (map (name_of t) ids) i (omega (arith, c.loop-i-test.false, length-map places (cut bytes)))
+    sym (none_left (map (at_place bytes) places) (map (name_of t) ids) i (omega (arith, c.loop-i-test.false, length-map places (at_place bytes)))
     (omega (arith, c.loop-i-test.false, c.if-places-ids.false, length-map ids (name_of t)))) ∙ c.loop-i.invariant

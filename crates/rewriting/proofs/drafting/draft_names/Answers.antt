@@ -2,7 +2,7 @@ use Rattle.std.proofs.Common.{◌≡◌, ℕ, ◌+◌, ◌≤◌, List, ◌++◌
 use Rattle.std.proofs.lemmas.List.{at_drop_all}
 use Rattle.std.proofs.lemmas.Result.{err_from_is_err_and}
 use Rattle.medium.specs.State.{with_drafted}
-use Rattle.image.specs.Names.{is_name}
+use Rattle.terms.specs.Names.{is_name}
 use Rattle.image.specs.Learning.{view}
 use Rattle.image.proofs.Learned.{view-kept}
 use Rattle.notes.specs.Notes.{name_of, unknown, new_names}

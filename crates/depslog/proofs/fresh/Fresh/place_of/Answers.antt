@@ -18,7 +18,7 @@ returns-then-eq c =
     let k = c.loop-k.k in
     let none : Place = record { start = 0; length = 0 } in
     let l : k < length (fresh_names bytes f) = omega (arith, fresh_long bytes f, c.loop-k-test.true) in
-    let q = fresh_asked bytes name c.part.result.now f k none c.eq.result c.loop-k-test.true c.part.ensures (slice_eq-Decides Decides-eqb _ _ _ c.eq.ensures) in
+    let q = fresh_asked bytes name c.of.result.now f k none c.eq.result c.loop-k-test.true c.of.ensures (slice_eq-Decides Decides-eqb _ _ _ c.eq.ensures) in
     sym (place_here k (bytes_eq name) (fresh_names bytes f) l (q ∙ c.if-eq.true)) ∙ c.loop-k.invariant
 
 pub loop-k-preserved : goal.loop-k-preserved
@@ -29,7 +29,7 @@ loop-k-preserved c =
     let k = c.loop-k.k in
     let none : Place = record { start = 0; length = 0 } in
     let l : k < length (fresh_names bytes f) = omega (arith, fresh_long bytes f, c.loop-k-test.true) in
-    let q = fresh_asked bytes name c.part.result.now f k none c.eq.result c.loop-k-test.true c.part.ensures (slice_eq-Decides Decides-eqb _ _ _ c.eq.ensures) in
+    let q = fresh_asked bytes name c.of.result.now f k none c.eq.result c.loop-k-test.true c.of.ensures (slice_eq-Decides Decides-eqb _ _ _ c.eq.ensures) in
     sym (place-past k (bytes_eq name) (fresh_names bytes f) l (q ∙ c.if-eq.false)) ∙ c.loop-k.invariant
 
 pub returns : goal.returns

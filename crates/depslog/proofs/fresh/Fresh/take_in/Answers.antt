@@ -3,7 +3,7 @@ use Rattle.std.proofs.lemmas.List.{append-nil}
 use Rattle.terms.specs.Lists.{is_in, place_in}
 use Rattle.image.specs.Learning.{view}
 use Rattle.image.proofs.Readings.{known_by}
-use Rattle.notes.specs.Meant.{cut}
+use Rattle.terms.specs.Places.{at_place}
 use Rattle.depslog.specs.FreshNames.{fresh_names}
 use Rattle.depslog.proofs.Freshly.{is-new, is_known_lem, is-taken, fresh_more}
 use Rattle.depslog.proofs.fresh.Fresh.take_in.Goals as goal
@@ -18,10 +18,10 @@ returns-then-is_none-2 c =
     let f = c.args.self.now in
     let bytes = c.args.bytes.now in
     let known = (view c.args.table.now).names in
-    let name : List ℕ = cut bytes c.args.place in
+    let name : List ℕ = at_place bytes c.args.place in
     let fresh = fresh_names bytes f in
-    let a = looked_up c.part-name.result.now name known false c.part-name.ensures (ap is_some (sym c.id_of.ensures) ∙ c.if-is_none.ensures) in
-    let b = looked_up c.part-name.result.now name fresh false c.part-name.ensures (ap is_some (sym c.place_of.ensures) ∙ c.if-is_none-2.ensures) in
+    let a = looked_up c.of-name.result.now name known false c.of-name.ensures (ap is_some (sym c.id_of.ensures) ∙ c.if-is_none.ensures) in
+    let b = looked_up c.of-name.result.now name fresh false c.of-name.ensures (ap is_some (sym c.place_of.ensures) ∙ c.if-is_none-2.ensures) in
     record {
       names = fresh_more bytes f.places f.count c.args.place (omega (arith, f.long, c.requires)) ∙ ap (λ (xs : List (List ℕ)). fresh ++ xs) (sym (is-new name known fresh a b));
       count = omega arith;
@@ -32,15 +32,15 @@ returns-else-is_none c =
     let f = c.args.self.now in
     let bytes = c.args.bytes.now in
     let known = (view c.args.table.now).names in
-    let name : List ℕ = cut bytes c.args.place in
+    let name : List ℕ = at_place bytes c.args.place in
     let fresh = fresh_names bytes f in
     record {
       names = sym (elim c.else-is_none.branch [
         | else-is_none-via-then-is_none+else-is_none-2 w ↦
-            let b = looked_up c.part-name.result.now name fresh true c.part-name.ensures (ap is_some (sym w.place_of.ensures) ∙ w.if-is_none-2.ensures) in
+            let b = looked_up c.of-name.result.now name fresh true c.of-name.ensures (ap is_some (sym w.place_of.ensures) ∙ w.if-is_none-2.ensures) in
             ap (λ (xs : List (List ℕ)). fresh ++ xs) (is-taken name known fresh b) ∙ append-nil fresh
         | else-is_none-via-else-is_none w ↦
-            let a = looked_up c.part-name.result.now name known true c.part-name.ensures (ap is_some (sym c.id_of.ensures) ∙ w.if-is_none.ensures) in
+            let a = looked_up c.of-name.result.now name known true c.of-name.ensures (ap is_some (sym c.id_of.ensures) ∙ w.if-is_none.ensures) in
             ap (λ (xs : List (List ℕ)). fresh ++ xs) (is_known_lem name known fresh a) ∙ append-nil fresh
       ]);
       count = omega arith;

@@ -1,6 +1,6 @@
 use Rattle.std.proofs.Common.{◌≡◌, ℕ, List, ◌++◌, map, sym, ap, ◌∙◌, subst, arith}
 use Rattle.terms.specs.Lists.{every}
-use Rattle.image.specs.Names.{is_name}
+use Rattle.terms.specs.Names.{is_name}
 use Rattle.image.specs.Bytes.{path}
 use Rattle.image.specs.Laws.{AllWritable}
 use Rattle.image.specs.Learning.{view}
@@ -36,7 +36,7 @@ returns-in-All g c =
     let t = view l.table in
     let n = meant c.args.bytes.now c.args.output c.args.mtime c.args.inputs.now in
     let fresh = fresh_names c.args.bytes.now c.args.fresh.now in
-    let id : c.id_in-id.result ≡ id_in (t.names ++ fresh) n.output = c.id_in-id.ensures.value ∙ ap (id_in (t.names ++ fresh)) c.part.ensures in
+    let id : c.id_in-id.result ≡ id_in (t.names ++ fresh) n.output = c.id_in-id.ensures.value ∙ ap (id_in (t.names ++ fresh)) c.of.ensures in
     let w = written-bytes t n c.path_count-first.result c.id_in-id.result fresh (entry_of c.entry_for-entry.result) c.requires.news c.path_count-first.ensures.count c.requires.names id c.entry_for-entry.ensures in
     let a = subst (λ (bs : List ℕ). WrittenOn bs (st l.medium) All (st c.append_note.new.medium)) w c.in-All.ensures in
     newly_all t n (st l.medium) (st c.append_note.new.medium) l.open (view c.learn_deps.new.self) c.requires.opened a.0 a.1
@@ -49,7 +49,7 @@ returns-in-NoRoom g c =
     let t = view l.table in
     let n = meant c.args.bytes.now c.args.output c.args.mtime c.args.inputs.now in
     let fresh = fresh_names c.args.bytes.now c.args.fresh.now in
-    let id : c.id_in-id.result ≡ id_in (t.names ++ fresh) n.output = c.id_in-id.ensures.value ∙ ap (id_in (t.names ++ fresh)) c.part.ensures in
+    let id : c.id_in-id.result ≡ id_in (t.names ++ fresh) n.output = c.id_in-id.ensures.value ∙ ap (id_in (t.names ++ fresh)) c.of.ensures in
     let w = written-bytes t n c.path_count-first.result c.id_in-id.result fresh (entry_of c.entry_for-entry.result) c.requires.news c.path_count-first.ensures.count c.requires.names id c.entry_for-entry.ensures in
     let a = subst (λ (bs : List ℕ). WrittenOn bs (st l.medium) NoRoom (st c.append_note.new.medium)) w c.in-NoRoom.ensures in
     newly_full t n (st l.medium) (st c.append_note.new.medium) l.open c.requires.opened a.0 a.1
@@ -61,7 +61,7 @@ returns-in-Off g c =
     let t = view l.table in
     let n = meant c.args.bytes.now c.args.output c.args.mtime c.args.inputs.now in
     let fresh = fresh_names c.args.bytes.now c.args.fresh.now in
-    let id : c.id_in-id.result ≡ id_in (t.names ++ fresh) n.output = c.id_in-id.ensures.value ∙ ap (id_in (t.names ++ fresh)) c.part.ensures in
+    let id : c.id_in-id.result ≡ id_in (t.names ++ fresh) n.output = c.id_in-id.ensures.value ∙ ap (id_in (t.names ++ fresh)) c.of.ensures in
     let w = written-bytes t n c.path_count-first.result c.id_in-id.result fresh (entry_of c.entry_for-entry.result) c.requires.news c.path_count-first.ensures.count c.requires.names id c.entry_for-entry.ensures in
     let a = subst (λ (bs : List ℕ). WrittenOn bs (st l.medium) Off (st c.append_note.new.medium)) w c.in-Off.ensures in
     newly_off t n (st l.medium) (st c.append_note.new.medium) l.open c.requires.opened a.0 a.1

@@ -1,6 +1,6 @@
 use Rattle.std.proofs.Common.{◌≡◌, ℕ, ◌≤◌, true, List, length, Some, None, sym, ap, ◌∙◌, arith}
 use Rattle.std.proofs.lemmas.Bool.{eqb-false, cond-true}
-use Rattle.image.specs.Names.{is_name}
+use Rattle.terms.specs.Names.{is_name}
 use Rattle.image.proofs.Naming.{is_name_lem, front-is}
 use Rattle.image.proofs.name.Name.new.Goals as goal
 

@@ -5,4 +5,4 @@ use Rattle.words.specs.Paths.{path_name}
 use Rattle.listing.proofs.keys.LinesKeysRowPath.key.Goals as goal
 
 pub returns : goal.returns
-returns c k = ap (λ bs. bytes_eq (path_name k) bs) (sym c.bytes_at.ensures) ∙ asked_by_lex (path_name k) c.bytes_at.result.now
+returns c k = ap (λ bs. bytes_eq (path_name k) bs) (sym c.of.ensures) ∙ asked_by_lex (path_name k) c.of.result.now

@@ -6,4 +6,4 @@ use Rattle.words.specs.Spelling.{unescaped}
 use Rattle.manifest.proofs.keys.TextKeysRulePath.key.Goals as goal
 
 pub returns : goal.returns
-returns c k = ap (λ bs. bytes_eq (path_name k) (unescaped bs)) (sym c.bytes_at.ensures) ∙ asked_by_lex (path_name k) (unescaped c.bytes_at.result.now)
+returns c k = ap (λ bs. bytes_eq (path_name k) (unescaped bs)) (sym c.of.ensures) ∙ asked_by_lex (path_name k) (unescaped c.of.result.now)

@@ -16,8 +16,8 @@ use Rattle.manifest.proofs.reader.Reader.declare.Goals.{Else-is_some}
 new : (c : Else-is_some) → rule_number (map (declaration c.args.text.now) (items c.args.self.now.rules)) (name_at c.args.text.now c.args.word.place) ≡ None
 new c =
     let D = declaration c.args.text.now in
-    ap (λ (bs : List ℕ). rule_number (map D (items c.args.self.now.rules)) (unescaped bs)) (sym c.bytes_at.ensures) ∙
-    ap (λ (rs : List Rule). rule_number (map D rs) (unescaped c.bytes_at.result.now)) (sym c.as_slice.ensures) ∙
+    ap (λ (bs : List ℕ). rule_number (map D (items c.args.self.now.rules)) (unescaped bs)) (sym c.of.ensures) ∙
+    ap (λ (rs : List Rule). rule_number (map D rs) (unescaped c.of.result.now)) (sym c.as_slice.ensures) ∙
     sym c.rule_number.ensures ∙ none_from c.rule_number.result (sym c.is_some.ensures ∙ c.if-is_some.false)
 
 pub returns-then-len-ge-RULES : goal.returns-then-len-ge-RULES

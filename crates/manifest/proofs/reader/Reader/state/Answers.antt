@@ -1,7 +1,7 @@
 use Rattle.std.proofs.Common.{◌≡◌, ℕ, List, map, take, Some, sym, refl, ap, ◌∙◌, arith}
 use Rattle.std.proofs.lemmas.List.{length-map}
 use Rattle.lists.specs.Grown.{items}
-use Rattle.lists.specs.Words.{placed}
+use Rattle.terms.specs.Places.{at_place}
 use Rattle.words.specs.Spelling.{unescaped}
 use Rattle.manifest.specs.declared.rule.Rule.{Rule}
 use Rattle.manifest.specs.Books.{is_over, rule_number}
@@ -17,8 +17,8 @@ declared : (c : In-Some) → rule_number (map (declaration c.args.text.now) (ite
 declared c =
     let D = declaration c.args.text.now in
     let p = c.args.built.now.rule.place in
-    ap (λ (bs : List ℕ). rule_number (map D (items c.args.self.now.rules)) (unescaped bs)) (ap (λ (xs : List ℕ). placed xs p) (sym c.part-bytes.ensures) ∙ sym c.bytes_at.ensures) ∙
-    ap (λ (rs : List Rule). rule_number (map D rs) (unescaped c.bytes_at.result.now)) (sym c.as_slice.ensures) ∙ sym c.rule_number.ensures ∙ c.in-Some.is
+    ap (λ (bs : List ℕ). rule_number (map D (items c.args.self.now.rules)) (unescaped bs)) (ap (λ (xs : List ℕ). at_place xs p) (sym c.part-bytes.ensures) ∙ sym c.of.ensures) ∙
+    ap (λ (rs : List Rule). rule_number (map D rs) (unescaped c.of.result.now)) (sym c.as_slice.ensures) ∙ sym c.rule_number.ensures ∙ c.in-Some.is
 
 pub returns-then-len-ge-STATEMENTS : goal.returns-then-len-ge-STATEMENTS
 returns-then-len-ge-STATEMENTS c = record {

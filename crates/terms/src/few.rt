@@ -1,0 +1,11 @@
+// A list of at most `N` elements, which lie in the value itself.
+ghost use Rattle.std.specs.Prelude.{◌≡◌, ◌≤◌, length};
+
+pub struct Few<T, const N: usize> {
+    pub(super) slots: [T; N],
+    pub(super) len: usize,
+    ghost few: { len ≤ N },
+    ghost long: { length slots ≡ N },
+}
+
+impl<T: Copy, const N: usize> Copy for Few<T, N> {}

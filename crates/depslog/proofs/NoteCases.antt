@@ -23,33 +23,11 @@ use Rattle.depslog.specs.Noting.{name_fault}
 use Rattle.depslog.specs.Appending.{AppendedAll}
 use Rattle.depslog.specs.NoteCall.{note_fault, no_room, NewlyNoted, NotedLog}
 use Rattle.depslog.proofs.Cuts.{Checked}
-use Rattle.depslog.proofs.Appends.{paths}
-use Rattle.depslog.proofs.Noted.{bytes_are, learned-all, names-bad, names-good}
+use Rattle.depslog.proofs.Noted.{names-bad, names-good}
 
 -- a log, open or closed
 abbrev on : Bool → Table → State → LogState
 on b t m = cond b (open_on t m) (closed_on m)
-
--- the records that are appended are those of the note
-pub written-bytes : (t : Table) (n : Note) (first id : ℕ) (fresh : List (List ℕ)) (e : Entry) → unchanged t n ≡ false → first ≡ length t.names → fresh ≡ new_names t.names (names_of n) →
-    id ≡ id_in (t.names ++ fresh) n.output → e ≡ record { mtime = n.says.mtime; inputs = map (id_in (t.names ++ fresh)) n.says.inputs } →
-    paths first fresh ++ record_bytes 0 (deps id e.mtime e.inputs) ≡ note_bytes t n
-written-bytes t n first id fresh e new f g h k =
-    let W : ℕ → List (List ℕ) → ℕ → Entry → List ℕ = λ a ns i x. paths a ns ++ record_bytes 0 (deps i x.mtime x.inputs) in
-    let E : List (List ℕ) → Entry = λ ns. record { mtime = n.says.mtime; inputs = map (id_in (t.names ++ ns)) n.says.inputs } in
-    ap (λ (a : ℕ). W a fresh id e) f ∙ ap (λ (i : ℕ). W (length t.names) fresh i e) h ∙ ap (λ (x : Entry). W (length t.names) fresh (id_in (t.names ++ fresh) n.output) x) k ∙
-    ap (λ (ns : List (List ℕ)). W (length t.names) ns (id_in (t.names ++ ns) n.output) (E ns)) g ∙ sym (bytes_are t n new)
-
--- and the table that is left is what is known then
-pub learned_then : (t v u : Table) (n : Note) (id : ℕ) (fresh : List (List ℕ)) (e : Entry) (r : Bool) → unchanged t n ≡ false → v ≡ learn_all t (map path fresh) → fresh ≡ new_names t.names (names_of n) →
-    id ≡ id_in (t.names ++ fresh) n.output → e ≡ record { mtime = n.says.mtime; inputs = map (id_in (t.names ++ fresh)) n.says.inputs } → (r, u) ≡ deps_learned v id e → u ≡ note_table t n
-learned_then t v u n id fresh e r new f g h k l =
-    let E : List (List ℕ) → Entry = λ ns. record { mtime = n.says.mtime; inputs = map (id_in (t.names ++ ns)) n.says.inputs } in
-    learned-all t n new r u (
-    l ∙ ap (λ (x : Table). deps_learned x id e) f ∙ ap (λ (i : ℕ). deps_learned (learn_all t (map path fresh)) i e) h ∙
-    ap (deps_learned (learn_all t (map path fresh)) (id_in (t.names ++ fresh) n.output)) k ∙
-    ap (λ (ns : List (List ℕ)). deps_learned (learn_all t (map path ns)) (id_in (t.names ++ ns) n.output) (E ns)) g
-    )
 
 -- A note that says something new ------------------------------------------------------------------------------------------------
 

@@ -3,9 +3,11 @@
 
 ghost use Rattle.notes.specs.Laws.{Accepted, NoteAdds, NoteReadsBack, NotesReadBack, NotingKeeps, CutAnywhere, MendingKeeps, LatestNoted, AgreeGoesOn, Compaction};
 
+mod given;
 mod lookup;
 mod same;
 
+pub use given::Given;
 pub use lookup::find;
 pub use same::{is_unchanged, name_of};
 

@@ -3,8 +3,9 @@ ghost use Rattle.std.specs.Prelude.{◌≡◌, map};
 ghost use Rattle.image.specs.Learning.{view};
 ghost use Rattle.notes.specs.Notes.{name_of, same_names, unchanged};
 ghost use Rattle.terms.specs.Places.{at_place};
-ghost use Rattle.notes.specs.Meant.{meant};
+ghost use Rattle.notes.specs.Meant.{given_note};
 
+use super::given::Given;
 use image::DepsTable;
 use terms::Place;
 
@@ -33,22 +34,16 @@ fn same_names(table: &DepsTable, ids: &[u32], bytes: &[u8], places: &[Place]) ->
     true
 }
 
-// Whether the output's entry has the same mtime and inputs as the note that is meant by bytes and places.
-pub fn is_unchanged(
-    table: &DepsTable,
-    bytes: &[u8],
-    output: Place,
-    mtime: u64,
-    inputs: &[Place],
-) -> bool
-    ensures { result ≡ unchanged (view table.now) (meant bytes.now output mtime inputs.now) }
+// Whether the output's entry has the same mtime and inputs as the note.
+pub fn is_unchanged(table: &DepsTable, note: &Given) -> bool
+    ensures { result ≡ unchanged (view table.now) (given_note note.now) }
 {
-    match table.id_of(output.of(bytes)) {
+    match table.id_of(note.output.of(note.bytes)) {
         None => false,
         Some(id) => match table.entry(id) {
             None => false,
-            Some(entry) => mtime == entry.mtime()
-                && same_names(table, entry.inputs(), bytes, inputs),
+            Some(entry) => note.mtime == entry.mtime()
+                && same_names(table, entry.inputs(), note.bytes, note.inputs),
         },
     }
 }

@@ -1,5 +1,5 @@
 -- That what is added to a table for a note is what the note writes and tells. Assumes nothing.
-use Rattle.std.proofs.Common.{◌≡◌, ℕ, Bool, true, false, List, ◌++◌, map, length, sym, refl, ap, ◌∙◌, subst}
+use Rattle.std.proofs.Common.{◌≡◌, ℕ, Bool, false, List, ◌++◌, map, length, sym, refl, ap, ◌∙◌, subst}
 use Rattle.image.specs.Bytes.{path, deps, record_bytes}
 use Rattle.image.specs.Tables.{Entry, Table, learn_all}
 use Rattle.image.specs.Laws.{AllWritable}

@@ -1,16 +1,13 @@
--- What was written into a buffer, and promoting a draft. Assumes nothing.
-use Rattle.std.proofs.Common.{◌≡◌, ℕ, ◌+◌, ◌-◌, ◌≤◌, Bool, true, false, cond, ltb, leb, List, [], ◌++◌, length, take, drop, Ok, Err, Result, sym, refl, ap, ◌∙◌, subst, inl, inr, arith}
+-- What was written into a buffer, and drafting in pieces. Assumes nothing.
+use Rattle.std.proofs.Common.{◌≡◌, ℕ, ◌+◌, ◌-◌, ◌≤◌, Bool, true, false, cond, leb, List, [], ◌++◌, length, take, drop, Ok, Err, Result, sym, refl, ap, ◌∙◌, inl, inr, arith}
 use Rattle.std.proofs.lemmas.List.{append_assoc, append-nil, length-append, take_at}
 use Rattle.std.proofs.lemmas.Bool.{le-leb, cond-true, true≢false}
 use Rattle.medium.specs.declared.Fault.{Fault}
 use Rattle.medium.specs.declared.Fault.TheVariants.{Off, Full}
-use Rattle.medium.specs.State.{Bytes, State, all, cut, more, settled, with_begun, with_draft, with_drafted}
-use Rattle.medium.specs.Failure.{Fell}
-use Rattle.medium.specs.Calls.{Drafted, Promoted}
+use Rattle.medium.specs.State.{Bytes, State, all, cut, more, with_drafted}
 use Rattle.image.specs.declared.writer.TooShort.{TooShort}
 use Rattle.image.specs.Written.{written}
-use Rattle.depslog.specs.Replacing.{Replaced, InPlace}
-use Rattle.depslog.specs.Drafting.{DraftedAll, IfOk}
+use Rattle.depslog.specs.Drafting.{DraftedAll}
 
 -- What was written ----------------------------------------------------------------------------------------------------------
 
@@ -96,29 +93,3 @@ room-first xs ys bs s e h = omega (arith, h, ap length e, length-append xs ys)
 pub all_drafted : (s : State) (cs : List ℕ) (z : State) → ToDraft [] s cs z → s ≡ with_drafted cs z
 all_drafted s cs z l =
     ap (λ (xs : List ℕ). record { power = s.power; capacity = s.capacity; live = s.live; draft = record { durable = s.draft.durable; pending = xs } }) (sym (append-nil s.draft.pending)) ∙ l
-
--- Promoting ------------------------------------------------------------------------------------------------------------------
-
-pub if_ok : (r : Result (Unit {0}) Fault) (P : Type 0) → P → IfOk r P
-if_ok (Ok x) P p = p
-if_ok (Err f) P p = tt
-
-promoted_from : (xs : List ℕ) (s t : State) (r : Result (Unit {0}) Fault) → s.power ≡ true → Promoted (with_draft (settled xs) s) r t → Replaced xs s r t
-promoted_from xs s t (Ok x) on p = record { on = on; fits = tt; after = p.after }
-promoted_from xs s t (Err Full) on p = absurd p.over
-promoted_from xs s t (Err Off) on p =
-    elim p [
-      | inl i ↦ absurd (true≢false (sym on ∙ i.off))
-      | inr b ↦
-          let fell-on : (c : Bytes) → Fell c (with_draft (settled xs) s) t → Fell c s t = λ c f.
-          record { off = f.off; same = f.same; kept = f.kept; live = f.live; draft_quiet = f.draft_quiet; draft_fits = f.draft_fits } in
-          inr (record { on = on; fits = tt; fell = elim b.fell [ inl f ↦ inl (fell-on s.live f) | inr f ↦ inr (fell-on (settled xs) f) ] })
-    ]
-
--- the draft holds the bytes, all durable, and is promoted
-pub promoted_in_place : (xs : List ℕ) (s b w t : State) (r : Result (Unit {0}) Fault) → ltb s.capacity (length xs) ≡ false → s.power ≡ true → b ≡ with_begun s → w ≡ with_draft (settled xs) b →
-    Promoted w r t → InPlace xs s r t
-promoted_in_place xs s b w t r e on d f p =
-    let q : Replaced xs s r t = promoted_from xs s t r on (subst (λ (v : State). Promoted v r t) (f ∙ ap (with_draft (settled xs)) d) p) in
-    let P : Bool → Type 0 = λ c. cond c ((r ≡ Err Full) × (t ≡ s)) (Replaced xs s r t) in
-    subst P (sym e) q

@@ -1,4 +1,3 @@
-pub mod Inputs
 pub mod Cuts
 pub mod Freshly
 pub mod Drafts

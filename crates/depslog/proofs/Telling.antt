@@ -1,28 +1,20 @@
 -- The entries of a table, told as notes one after the other. Assumes nothing.
-use Rattle.std.proofs.Common.{◌≡◌, ℕ, ◌+◌, ◌*◌, ◌<◌, ◌≤◌, Bool, true, false, ltb, List, [], ◌∷◌, ◌++◌, map, length, get_or, take, drop, is_some, Some, None, sum_by, Option, sym, refl, ap, ◌∙◌, subst, arith}
-use Rattle.std.specs.Str.{bytes_eq}
-use Rattle.std.proofs.lemmas.List.{append-nil, append_assoc, drop_more, at_drop_all, take_more, map_push, length-map}
+use Rattle.std.proofs.Common.{◌≡◌, ℕ, ◌+◌, ◌<◌, ◌≤◌, true, false, ltb, List, [], ◌∷◌, ◌++◌, map, length, get_or, drop, Some, None, Option, sym, refl, ap, ◌∙◌, subst}
+use Rattle.std.proofs.lemmas.List.{drop_more, at_drop_all}
 use Rattle.std.proofs.lemmas.Bool.{and_parts, and_from, ltb-true}
 use Rattle.terms.specs.Names.{is_name}
 use Rattle.notes.proofs.Refits.{name_sound}
-use Rattle.terms.specs.Lists.{every, is_in, place_in, ◌▷◌}
-use Rattle.medium.specs.State.{State, with_drafted}
-use Rattle.image.specs.Tables.{Entry, Table, bare, learn}
-use Rattle.image.specs.Bytes.{path, deps, record_bytes, records_bytes}
+use Rattle.terms.specs.Lists.{every}
+use Rattle.image.specs.Tables.{Entry, Table, bare}
 use Rattle.image.specs.Kept.{fits_entry, Kept}
-use Rattle.image.specs.Learning.{takes_deps, deps_learned}
-use Rattle.image.proofs.Tests.{place_in_lem}
-use Rattle.notes.specs.Notes.{Says, Note, name_of, by_names, unchanged, unknown, new_names, names_of, extended, id_in, id_at, deps_of, note_table, note_bytes, notes_table, notes_bytes}
+use Rattle.notes.specs.Notes.{Says, Note, name_of, by_names, unchanged, note_table, note_bytes, notes_table, notes_bytes}
 use Rattle.notes.specs.Compacting.{note_of, notes_for, compact_table}
 use Rattle.notes.specs.Wholeness.{Fitting, AllFit}
-use Rattle.notes.specs.Laws.{path_length}
-use Rattle.notes.proofs.Places.{is_known_lem, ids-below}
-use Rattle.notes.proofs.Noting.{all_in, records-full, table-full, named-names, note_names}
 use Rattle.notes.proofs.Entries.{entry-fits}
 use Rattle.notes.proofs.LatestNoted.{bare-kept, by_id}
 use Rattle.notes.proofs.Refits.{compact_fits}
-use Rattle.notes.proofs.Lengths.{note_adds, AllNew, new_for}
-use Rattle.depslog.specs.Drafting.{paths_bytes, with_names, note_at}
+use Rattle.notes.proofs.Lengths.{AllNew, new_for}
+use Rattle.depslog.specs.Drafting.{note_at}
 
 -- Entry by entry -------------------------------------------------------------------------------------------------------------
 

@@ -1,5 +1,5 @@
 -- The parts of a recompaction: names and entries of one table as notes would tell them in another, and drafting their records. Assumes nothing.
-use Rattle.std.specs.Prelude.{ℕ, List, map, Ok, Err, Result}
+use Rattle.std.specs.Prelude.{ℕ, List, map, Result}
 use Rattle.medium.specs.declared.Fault.{Fault}
 use Rattle.medium.specs.State.{State, with_drafted}
 use Rattle.medium.specs.Failure.{Fell}
@@ -11,11 +11,6 @@ use Rattle.notes.specs.Notes.{Note, name_of}
 -- All of the bytes are drafted, or the power fails on the way, which meets the old live bytes.
 abbrev pub DraftedAll : {A : Type 0} → List ℕ → State → Result A Fault → State → Type 0
 DraftedAll bs s r t = Step (Unit {0}) ⊥ (with_drafted bs s) (Fell s.live s) s r t
-
--- what holds where the answer is a grant
-abbrev pub IfOk : {A F : Type 0} → Result A F → Type 0 → Type 0
-IfOk (Ok x) p = p
-IfOk (Err f) p = Unit {0}
 
 -- the path records of some names, whose ids go on from `id`
 abbrev pub paths_bytes : ℕ → List (List ℕ) → List ℕ

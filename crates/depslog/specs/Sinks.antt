@@ -5,7 +5,7 @@ use Rattle.std.proofs.lemmas.List.{append_assoc, append-nil, length-append, take
 use Rattle.std.proofs.lemmas.Bool.{cases_lt, true≢false}
 use Rattle.medium.specs.declared.Fault.{Fault}
 use Rattle.medium.specs.declared.Fault.TheVariants.{Off, Full}
-use Rattle.medium.specs.State.{Bytes, State, all, settled, more, cut, with_appended, with_drafted}
+use Rattle.medium.specs.State.{Bytes, State, all, settled, more, with_appended, with_drafted}
 use Rattle.medium.specs.Failure.{Fell}
 use Rattle.depslog.specs.State.{live_of}
 use Rattle.depslog.specs.Appending.{AppendedAll}

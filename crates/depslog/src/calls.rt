@@ -1,5 +1,6 @@
 // Making a log, and the calls that write nothing of their own.
-ghost use Rattle.std.specs.Prelude.{◌≡◌, MatchResult};
+ghost use Rattle.std.specs.Prelude.{◌≡◌, not, ◌&&◌, MatchResult};
+ghost use Rattle.medium.specs.Refusals.{refusal_of, is_off};
 ghost use Rattle.std.specs.Option.{option_map};
 ghost use Rattle.depslog.specs.State.{state_of, closed_on};
 ghost use Rattle.depslog.specs.Calls.{SyncedLog, FailedLog, find_answer, input_name};
@@ -59,7 +60,7 @@ impl<M: Medium> Log<M> {
     // The refusal for what the medium says; a failure of the power closes the log.
     pub(super) fn refused(&mut self, fault: Fault) -> Refusal
         ensures refusal { result ≡ refusal_of fault }
-        ensures open { self.new.open ≡ (self.old.open && ◌==◌ (fault_number fault) 2) }
+        ensures opened { self.new.open ≡ (self.old.open && not (is_off fault)) }
         ensures medium { self.new.medium ≡ self.old.medium }
         ensures table { self.new.table ≡ self.old.table }
     {

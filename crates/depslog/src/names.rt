@@ -1,11 +1,10 @@
 // The names of a note, as places in some bytes.
-ghost use Rattle.std.specs.Prelude.{◌≡◌, ◌≤◌, ◌∷◌, None, true, length};
+ghost use Rattle.std.specs.Prelude.{◌≡◌, ◌≤◌, ◌∷◌, None, IfOk, true, length};
 ghost use Rattle.terms.specs.Names.{is_name};
 ghost use Rattle.terms.specs.Places.{at_place};
 ghost use Rattle.notes.specs.Meant.{given_note};
 ghost use Rattle.depslog.specs.Calls.{fault_or};
 ghost use Rattle.depslog.specs.Noting.{place_fault, name_fault, checked};
-ghost use Rattle.depslog.specs.Drafting.{IfOk};
 ghost use Rattle.depslog.specs.Adding.{note_told};
 
 use super::told::Told;

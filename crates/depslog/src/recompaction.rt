@@ -1,5 +1,5 @@
 // What a recompaction puts in the place of all live bytes: the header, and each entry as a note would tell it in an empty log.
-ghost use Rattle.std.specs.Prelude.{◌≡◌, ◌+◌, ◌<◌, ◌≤◌, true, length, nat_lt};
+ghost use Rattle.std.specs.Prelude.{◌≡◌, ◌+◌, ◌<◌, ◌≤◌, true, length, nat_lt, OnOk};
 ghost use Rattle.terms.specs.Lists.{every};
 ghost use Rattle.medium.specs.State.{all};
 ghost use Rattle.image.specs.View.{entry_of};
@@ -8,7 +8,7 @@ ghost use Rattle.image.specs.Learning.{view};
 ghost use Rattle.notes.specs.Notes.{notes_bytes};
 ghost use Rattle.notes.specs.Compacting.{entries_of, compact_bytes, compact_table};
 ghost use Rattle.depslog.specs.Adding.{note_told};
-ghost use Rattle.depslog.specs.Drafting.{DraftedAll, IfOk, note_at};
+ghost use Rattle.depslog.specs.Drafting.{DraftedAll, note_at};
 
 use super::added::Added;
 use super::replacing::Contents;
@@ -63,7 +63,7 @@ fn draft_entries<M: Medium>(
     requires on { (M.Medium.state medium.old).power ≡ true }
     requires room { length (all (M.Medium.state medium.old).draft) + length (notes_bytes bare (entries_of (view from.now))) ≤ (M.Medium.state medium.old).capacity }
     ensures drafted { DraftedAll (notes_bytes bare (entries_of (view from.now))) (M.Medium.state medium.old) result (M.Medium.state medium.new) }
-    ensures known { IfOk result (view into.new ≡ compact_table (view from.now)) }
+    ensures known { OnOk result (view into.new ≡ compact_table (view from.now)) }
 {
     into.clear();
     for id in 0..from.path_count() {

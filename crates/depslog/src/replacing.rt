@@ -1,8 +1,8 @@
 // Replacing all live bytes of a medium at once, by a draft.
-ghost use Rattle.std.specs.Prelude.{◌≡◌, ◌≤◌, ℕ, List, true, length};
+ghost use Rattle.std.specs.Prelude.{◌≡◌, ◌≤◌, ℕ, List, true, length, OnOk};
 ghost use Rattle.medium.specs.State.{none};
 ghost use Rattle.depslog.specs.Replacing.{InPlace, DraftFilled};
-ghost use Rattle.depslog.specs.Drafting.{DraftedAll, IfOk};
+ghost use Rattle.depslog.specs.Drafting.{DraftedAll};
 
 use super::sink::{Draft, Sink};
 use medium::{Fault, Medium};
@@ -24,7 +24,7 @@ pub(super) trait Contents<M: Medium> {
         requires empty { (M.Medium.state medium.old).draft ≡ none }
         requires room { length (bytes self.now) ≤ (M.Medium.state medium.old).capacity }
         ensures drafted { DraftedAll (bytes self.now) (M.Medium.state medium.old) result (M.Medium.state medium.new) }
-        ensures taught { IfOk result (taught self.now known.new) };
+        ensures taught { OnOk result (taught self.now known.new) };
 }
 
 // Some bytes as they are.
@@ -60,7 +60,7 @@ fn fill_draft<M: Medium, C: Contents<M>>(
     requires empty { (M.Medium.state medium.old).draft ≡ none }
     requires room { length (C.Contents.bytes contents.now) ≤ (M.Medium.state medium.old).capacity }
     ensures filled { DraftFilled (C.Contents.bytes contents.now) (M.Medium.state medium.old) result (M.Medium.state medium.new) }
-    ensures taught { IfOk result (C.Contents.taught contents.now known.new) }
+    ensures taught { OnOk result (C.Contents.taught contents.now known.new) }
 {
     contents.write(medium, &Draft { token }, known)?;
     medium.draft_sync(token)
@@ -73,7 +73,7 @@ pub(super) fn replace<M: Medium, C: Contents<M>>(
     known: &mut C::Known,
 ) -> Result<(), Fault>
     ensures medium { InPlace (C.Contents.bytes contents.now) (M.Medium.state medium.old) result (M.Medium.state medium.new) }
-    ensures taught { IfOk result (C.Contents.taught contents.now known.new) }
+    ensures taught { OnOk result (C.Contents.taught contents.now known.new) }
 {
     if medium.capacity() < contents.length(known) {
         return Err(Fault::Full);

@@ -1,4 +1,4 @@
-use Rattle.std.proofs.Common.{◌≡◌, ℕ, ◌+◌, List, ◌∷◌, length, drop, sym, refl, ap, ◌∙◌, arith, Bor}
+use Rattle.std.proofs.Common.{ℕ, ◌+◌, List, ◌∷◌, length, drop, sym, refl, ap, ◌∙◌, arith, Bor}
 use Rattle.std.proofs.lemmas.List.{at_drop_all, drop_more}
 use Rattle.terms.specs.Few.{items}
 use Rattle.image.specs.Learning.{view}

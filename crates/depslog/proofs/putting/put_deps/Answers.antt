@@ -1,4 +1,4 @@
-use Rattle.std.proofs.Common.{replicate, sym, ap, ◌∙◌, arith}
+use Rattle.std.proofs.Common.{replicate, arith}
 use Rattle.image.specs.Bytes.{deps, record_bytes}
 use Rattle.image.specs.View.{entry_of}
 use Rattle.image.proofs.Learned.{entry-short}

@@ -1,15 +1,15 @@
-use Rattle.std.proofs.Common.{◌≡◌, ℕ, ◌+◌, ◌*◌, ◌<◌, ◌≤◌, Some, None, length, get_or, Option, sym, ap, ◌∙◌, subst, arith}
+use Rattle.std.proofs.Common.{◌≡◌, ◌+◌, ◌<◌, Some, None, length, get_or, sym, ap, ◌∙◌, subst, arith}
 use Rattle.std.specs.Option.{option_map}
 use Rattle.std.proofs.lemmas.List.{length-append}
 use Rattle.image.specs.Tables.{Table}
 use Rattle.image.specs.View.{entry_of}
 use Rattle.image.specs.Learning.{view}
 use Rattle.image.proofs.Learned.{view-kept}
-use Rattle.notes.specs.Notes.{Note, note_bytes, notes_bytes, notes_table}
+use Rattle.notes.specs.Notes.{Note, note_bytes, notes_bytes}
 use Rattle.depslog.specs.Adding.{Adds}
 use Rattle.depslog.specs.Drafting.{note_at}
 use Rattle.depslog.proofs.Addings.{bytes_same, learned_same, may_learn}
-use Rattle.depslog.proofs.Telling.{rest_of, left-first, left-none, left-some, first-left, bytes-some, bytes-none, left-all}
+use Rattle.depslog.proofs.Telling.{rest_of, left-first, left-none, left-some, first-left, bytes-some, bytes-none}
 use Rattle.depslog.proofs.recompaction.count_entries.Goals as goal
 use Rattle.depslog.proofs.recompaction.count_entries.Goals.{in-Some, in_default}
 

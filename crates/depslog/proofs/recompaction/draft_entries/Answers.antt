@@ -1,4 +1,4 @@
-use Rattle.std.proofs.Common.{◌≡◌, ℕ, ◌+◌, ◌<◌, ◌≤◌, List, [], Err, length, get_or, Some, None, sym, refl, ap, ◌∙◌, subst, arith}
+use Rattle.std.proofs.Common.{◌≡◌, ℕ, ◌+◌, ◌<◌, ◌≤◌, List, [], length, get_or, Some, None, sym, refl, ap, ◌∙◌, subst, arith}
 use Rattle.std.specs.Option.{option_map}
 use Rattle.std.proofs.lemmas.Result.{err_from_is_err_and}
 use Rattle.medium.specs.State.{all as all-of, with_drafted}
@@ -9,7 +9,7 @@ use Rattle.image.proofs.Learned.{view-kept}
 use Rattle.notes.specs.Notes.{Note, note_bytes, note_table, notes_bytes, notes_table}
 use Rattle.notes.specs.Compacting.{entries_of}
 use Rattle.depslog.specs.Adding.{Adds, bytes_added}
-use Rattle.depslog.specs.Drafting.{DraftedAll, note_at}
+use Rattle.depslog.specs.Drafting.{note_at}
 use Rattle.depslog.proofs.Addings.{bytes_same, learned_same, may_learn}
 use Rattle.depslog.proofs.Drafts.{left-on, left-room, left_broke, room-first, piece_drafted, all_drafted}
 use Rattle.depslog.proofs.Telling.{rest_of, left-first, left-none, left-some, left-all, first-left, bytes-none, bytes-some}

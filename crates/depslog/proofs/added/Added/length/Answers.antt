@@ -1,5 +1,5 @@
-use Rattle.std.proofs.Common.{◌≡◌, ℕ, ◌+◌, true, List, ◌++◌, length, get_or, take, sym, ap, ◌∙◌, arith, Bor}
-use Rattle.std.proofs.lemmas.List.{length-append, length-take-le, take_all}
+use Rattle.std.proofs.Common.{◌≡◌, ℕ, ◌+◌, true, List, length, get_or, take, ap, ◌∙◌, arith, Bor}
+use Rattle.std.proofs.lemmas.List.{length-append, take_all}
 use Rattle.terms.specs.Few.{items}
 use Rattle.terms.specs.Lists.{every}
 use Rattle.terms.specs.Names.{is_name}

@@ -1,5 +1,5 @@
 use Rattle.std.proofs.Common.{◌≡◌, ℕ, ◌+◌, ◌*◌, ◌≤◌, map, length, take}
-use Rattle.image.specs.Bytes.{path, deps, record_bytes, records_bytes}
+use Rattle.image.specs.Bytes.{path, records_bytes}
 use Rattle.image.specs.View.{entry_of}
 use Rattle.depslog.specs.Texts.{texts}
 use Rattle.depslog.proofs.added.Added.length.Given as goal

@@ -1,4 +1,4 @@
-// A list that grows over memory that the caller lends.
+// A list that grows over memory that the caller lends: nothing here takes memory from a heap, so it is no Vec.
 ghost use Rattle.std.specs.Prelude.{◌≤◌, length};
 
 #[derive(Drop)]

@@ -15,8 +15,17 @@ word-chunk xs =
 
 pub long-chunk : (xs : List ℕ) → from_le_bytes w64 (take 8 xs) ≡ long_at xs 0
 long-chunk xs =
-    omega (arith, get_or-take 8 xs 0 0 (lit< tt), get_or-take 8 xs 1 0 (lit< tt), get_or-take 8 xs 2 0 (lit< tt), get_or-take 8 xs 3 0 (lit< tt),
-    get_or-take 8 xs 4 0 (lit< tt), get_or-take 8 xs 5 0 (lit< tt), get_or-take 8 xs 6 0 (lit< tt), get_or-take 8 xs 7 0 (lit< tt))
+    omega (
+      arith,
+      get_or-take 8 xs 0 0 (lit< tt),
+      get_or-take 8 xs 1 0 (lit< tt),
+      get_or-take 8 xs 2 0 (lit< tt),
+      get_or-take 8 xs 3 0 (lit< tt),
+      get_or-take 8 xs 4 0 (lit< tt),
+      get_or-take 8 xs 5 0 (lit< tt),
+      get_or-take 8 xs 6 0 (lit< tt),
+      get_or-take 8 xs 7 0 (lit< tt),
+    )
 
 -- a test of the numbers of all chunks is one of all words
 pub all-words : (p : ℕ → Bool) (n : ℕ) (xs : List ℕ) → list_all (λ c. p (from_le_bytes w32 c)) (first_chunks 4 n xs) ≡ every p (words_of n xs)

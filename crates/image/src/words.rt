@@ -8,7 +8,9 @@ pub(super) fn all_below(ids: &[u8], count: usize) -> bool
     ensures { result ≡ every (λ id. nat_lt id count) (words_of (length ids.now / 4) ids.now) }
 {
     let (words, _) = ids.as_chunks::<4>();
-    words.iter().all(|id| (u32::from_le_bytes(*id) as usize) < count)
+    words
+        .iter()
+        .all(|id| (u32::from_le_bytes(*id) as usize) < count)
 }
 
 // A name without the zeros behind it, of which at most three are padding.

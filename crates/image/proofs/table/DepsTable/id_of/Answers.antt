@@ -12,5 +12,5 @@ returns c =
     let rows = vec_items c.args.self.now.rows in
     let name = c.args.name.now in
     position_from_yields_List (λ r. pointwise eqb (name_in r) name) _ _ c.position.result c.position.ensures.ran
-        (YieldsList-from_slice rows (search rules)) (λ x b q k. search (rules, tests)) ∙
+    (YieldsList-from_slice rows (search rules)) (λ x b q k. search (rules, tests)) ∙
     position_from-zero (λ r. pointwise eqb (name_in r) name) rows ∙ place-row name 0 rows

@@ -1,6 +1,5 @@
 -- What a table keeps as it learns. Assumes nothing.
 use Rattle.std.proofs.Common.{◌≡◌, ℕ, ◌+◌, ◌^◌, ◌<◌, ◌≤◌, Bool, true, false, cond, not, ◌&&◌, ltb, leb, List, [], ◌∷◌, map, length, Some, None, vec_items, vec_len, Option, sym, refl, ap, ◌∙◌, arith}
-use Rattle.std.specs.Option.{option_map}
 use Rattle.std.specs.Str.{bytes_eq}
 use Rattle.std.proofs.lemmas.List.{length-map, length-take-le, map_push}
 use Rattle.std.proofs.lemmas.Bool.{and_from, and_left, and_right, and_parts, or_parts, not-true, not_from_true, not_from_false, lt-ltb, le-ltb, le-leb, ltb-true, cond-true, cond-false}

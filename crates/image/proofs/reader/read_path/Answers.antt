@@ -1,4 +1,4 @@
-use Rattle.std.proofs.Common.{◌≡◌, ℕ, ◌-◌, true, false, length, take, drop, is_some, sym, ap, ◌∙◌, w32}
+use Rattle.std.proofs.Common.{◌≡◌, ◌-◌, true, false, length, drop, is_some, sym, ap, ◌∙◌, w32}
 use Rattle.std.specs.Int.{from_le_bytes}
 use Rattle.std.proofs.lemmas.Bool.{or_left, or_right, or_from}
 use Rattle.std.proofs.lemmas.Option.{MatchOption-at_some}

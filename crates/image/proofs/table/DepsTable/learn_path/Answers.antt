@@ -1,4 +1,4 @@
-use Rattle.std.proofs.Common.{◌≡◌, ℕ, ◌<◌, Bool, true, false, List, length, is_some, map, ◌+◌, vec_items, vec_len, ap, ◌∙◌, arith}
+use Rattle.std.proofs.Common.{◌≡◌, ℕ, Bool, true, false, List, is_some, map, ◌+◌, vec_items, vec_len, ap, ◌∙◌, arith}
 use Rattle.terms.specs.Lists.{every, is_in}
 use Rattle.image.specs.Bytes.{path}
 use Rattle.image.specs.Tables.{Table, learn}
@@ -7,7 +7,7 @@ use Rattle.image.specs.View.{text, name_in, entry_in, table_of}
 use Rattle.image.specs.Learning.{view}
 use Rattle.image.proofs.Readings.{known_by}
 use Rattle.image.proofs.Learned.{names-long, name-made, path-full, path-known, path-taken}
-use Rattle.image.proofs.Rows.{named, named-table, named-apart, named-fitting}
+use Rattle.image.proofs.Rows.{named-table, named-apart, named-fitting}
 use Rattle.image.proofs.table.DepsTable.learn_path.Goals as goal
 use Rattle.image.proofs.table.DepsTable.learn_path.Goals.{then-path_count-ge256-via-then-path_count-ge256, then-path_count-ge256-via-else-path_count-ge256+then-is_some}
 

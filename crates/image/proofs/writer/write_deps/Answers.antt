@@ -35,7 +35,7 @@ loop-k-preserved c =
     let k = c.loop-k.k in
     let h : List ℕ = deps-head (2147483648 + (12 + 4 * length ids)) c.args.output (entry_of c.args.entry.now).mtime in
     fronted-more (h ++ words (take k ids)) old c.loop-k.buf c.copy_from_slice-in-loop-k.new.self c.to_le_bytes-in-loop-k.result (16 + 4 * k) (20 + 4 * k - (16 + 4 * k)) c.loop-k.invariant
-        (sym (length-head (2147483648 + (12 + 4 * length ids)) c.args.output (entry_of c.args.entry.now).mtime ids k (omega (arith, c.loop-k-test.true)))) c.copy_from_slice-in-loop-k.ensures.after (omega (arith, ap length c.to_le_bytes-in-loop-k.ensures)) ∙
+    (sym (length-head (2147483648 + (12 + 4 * length ids)) c.args.output (entry_of c.args.entry.now).mtime ids k (omega (arith, c.loop-k-test.true)))) c.copy_from_slice-in-loop-k.ensures.after (omega (arith, ap length c.to_le_bytes-in-loop-k.ensures)) ∙
     ap (λ (xs : List ℕ). xs ++ drop (length xs) old) (words-more h ids k c.to_le_bytes-in-loop-k.result c.loop-k-test.true c.to_le_bytes-in-loop-k.ensures)
 
 pub returns : goal.returns

@@ -1,5 +1,5 @@
 -- Numbers in chunks of bytes, and tests of them. Assumes nothing.
-use Rattle.std.proofs.Common.{◌≡◌, ℕ, zero, suc, ◌+◌, ◌<◌, Bool, ◌&&◌, ◌||◌, eqb, List, [], ◌∷◌, map, length, get_or, take, drop, lit<, refl, sym, ap, ◌∙◌, arith, w32, w64}
+use Rattle.std.proofs.Common.{◌≡◌, ℕ, zero, suc, ◌+◌, ◌<◌, Bool, ◌&&◌, ◌||◌, eqb, List, [], ◌∷◌, map, length, get_or, take, drop, lit<, refl, sym, ap, ◌∙◌, arith, w32}
 use Rattle.std.specs.Int.{from_le_bytes}
 use Rattle.std.specs.List.{list_all, list_any}
 use Rattle.std.specs.Simd.{first_chunks}
@@ -7,25 +7,11 @@ use Rattle.std.proofs.lemmas.List.{get_or-take, take_more, map_push}
 use Rattle.std.proofs.lemmas.Bool.{ne_eqb}
 use Rattle.terms.specs.Lists.{every, ◌▷◌}
 use Rattle.terms.specs.Names.{holds_zero}
-use Rattle.image.specs.Reading.{word_at, long_at, words_of}
+use Rattle.image.specs.Reading.{word_at, words_of}
 
 pub word-chunk : (xs : List ℕ) → from_le_bytes w32 (take 4 xs) ≡ word_at xs 0
 word-chunk xs =
     omega (arith, get_or-take 4 xs 0 0 (lit< tt), get_or-take 4 xs 1 0 (lit< tt), get_or-take 4 xs 2 0 (lit< tt), get_or-take 4 xs 3 0 (lit< tt))
-
-pub long-chunk : (xs : List ℕ) → from_le_bytes w64 (take 8 xs) ≡ long_at xs 0
-long-chunk xs =
-    omega (
-      arith,
-      get_or-take 8 xs 0 0 (lit< tt),
-      get_or-take 8 xs 1 0 (lit< tt),
-      get_or-take 8 xs 2 0 (lit< tt),
-      get_or-take 8 xs 3 0 (lit< tt),
-      get_or-take 8 xs 4 0 (lit< tt),
-      get_or-take 8 xs 5 0 (lit< tt),
-      get_or-take 8 xs 6 0 (lit< tt),
-      get_or-take 8 xs 7 0 (lit< tt),
-    )
 
 -- a test of the numbers of all chunks is one of all words
 pub all-words : (p : ℕ → Bool) (n : ℕ) (xs : List ℕ) → list_all (λ c. p (from_le_bytes w32 c)) (first_chunks 4 n xs) ≡ every p (words_of n xs)

@@ -1,7 +1,7 @@
 -- What a table keeps as it learns. Assumes nothing.
-use Rattle.std.proofs.Common.{◌≡◌, ℕ, ◌+◌, ◌^◌, ◌<◌, ◌≤◌, Bool, true, false, cond, not, ◌&&◌, ltb, leb, List, [], ◌∷◌, map, length, Some, None, vec_items, vec_len, Option, sym, refl, ap, ◌∙◌, arith}
+use Rattle.std.proofs.Common.{◌≡◌, ℕ, ◌+◌, ◌^◌, ◌<◌, ◌≤◌, Bool, true, false, cond, not, ◌&&◌, ltb, leb, List, [], ◌∷◌, length, Some, None, vec_items, vec_len, Option, sym, refl, ap, ◌∙◌, arith}
 use Rattle.std.specs.Str.{bytes_eq}
-use Rattle.std.proofs.lemmas.List.{length-map, length-take-le, map_push}
+use Rattle.std.proofs.lemmas.List.{length-map, length-take-le}
 use Rattle.std.proofs.lemmas.Bool.{and_from, and_left, and_right, and_parts, or_parts, not-true, not_from_true, not_from_false, lt-ltb, le-ltb, le-leb, ltb-true, cond-true, cond-false}
 use Rattle.terms.specs.Lists.{every, is_in, ◌▷◌}
 use Rattle.image.specs.declared.entry.DepsEntry.{DepsEntry}
@@ -58,10 +58,6 @@ view-kept t =
       paired = entries-long t ∙ sym n;
       fitting = ap (λ (k : ℕ). every (fits_entry k) (view t).entries) n ∙ t.fitting;
     }
-
--- one more element, seen through a function
-pub map-pushed : {A B : Type 0} (f : A → B) (was after : List A) (x : A) → after ≡ was ▷ x → map f after ≡ map f was ▷ f x
-map-pushed f was after x e = ap (map f) e ∙ map_push f was x
 
 -- Answers ----------------------------------------------------------------------------------------------------------------
 

@@ -38,6 +38,7 @@ impl<'a> Deps<'a> {
 
 impl DepsTable {
     // Learns a deps record that was read; false, and nothing changed, where it has more than 64 inputs.
+    // A bool, as learn_path answers: the reader takes both alike.
     fn learn_read(&mut self, read: Deps) -> bool
         requires { every (is_known (view self.old).names) (read.output ∷ ids_of read) ≡ true }
         ensures limit { result ≡ not (is_over (length (view self.old).names) (deps read.entry.output read.entry.mtime (ids_of read.entry))) }

@@ -1,3 +1,1 @@
-pub mod Held
 pub mod Finds
-pub mod Words

@@ -2,4 +2,3 @@ pub mod Lexemes
 pub mod Lines
 pub mod Spans
 pub mod Spells
-pub mod Walks

@@ -8,7 +8,7 @@ mod spelling;
 mod token;
 mod tokens;
 
-pub use class::{Class, all_of, begins, same_bytes, span_end};
+pub use class::{Class, all_of, begins, span_end};
 pub use path::Path;
 pub use spelling::{Word, word_at};
 pub use token::Token;

@@ -1,6 +1,7 @@
 // Printing what a deps log holds.
+use super::failure::Failure;
 use super::files::read_log;
-use super::shown::{Shown, cause_text, refusal_text};
+use super::shown::Shown;
 use image::{Deps, DepsEntry, DepsTable, Filled, Read, read_record};
 use std::io;
 use terms::At;
@@ -81,31 +82,21 @@ fn print_sum(rt: &HostRuntime, filled: Filled, entries: usize) -> io::Result<()>
     if let Some(tail) = filled.tail {
         let offset = tail.offset;
         let number = tail.value.number();
-        let text = cause_text(tail.value);
-        println!(rt; "tail at {offset}, cause {number}: {text}")?;
+        let cause = tail.value;
+        println!(rt; "tail at {offset}, cause {number}: {cause}")?;
     }
     Ok(())
 }
 
-// Prints a log; false, and a line on standard error, where it cannot be read as one.
-pub(super) fn dump(rt: &HostRuntime, path: &str) -> io::Result<bool> {
-    let Some(image) = read_log(rt, path, false)? else {
-        return Ok(false);
-    };
+// Prints a log.
+pub(super) fn dump<'a>(rt: &HostRuntime, path: &'a str) -> Result<(), Failure<'a>> {
+    let image = read_log(rt, path)?;
     let mut table = DepsTable::new(rt.alloc())?;
-    match table.fill(&image) {
-        Ok(filled) => {
-            print_records(rt, &image, filled.records)?;
-            let entries = print_entries(rt, &table)?;
-            print_sum(rt, filled, entries)?;
-            Ok(true)
-        }
-        Err(refusal) => {
-            let number = refusal.number();
-            let place = refusal.place();
-            let text = refusal_text(refusal);
-            eprintln!(rt; "hefnwyrad: {path}: refused {number} at {place} ({text})")?;
-            Ok(false)
-        }
-    }
+    let filled = table
+        .fill(&image)
+        .map_err(|refusal| Failure::NoLog(path, refusal))?;
+    print_records(rt, &image, filled.records)?;
+    let entries = print_entries(rt, &table)?;
+    print_sum(rt, filled, entries)?;
+    Ok(())
 }

@@ -1,7 +1,9 @@
 // The program: reads its arguments, and does what they ask.
 #![tactic(auto)]
 
+mod change;
 mod dump;
+mod failure;
 mod files;
 mod find;
 mod note;
@@ -10,6 +12,7 @@ mod recompact;
 mod shown;
 
 use dump::dump;
+use failure::Failure;
 use find::find;
 use note::note;
 use recompact::recompact;
@@ -21,17 +24,17 @@ const USAGE: &str =
        hefnwyrad find LOG OUTPUT                   print the mtime and the inputs of an output's entry
        hefnwyrad note LOG OUTPUT MTIME INPUT...    note that an output was made at a time from inputs";
 
-// False where what was asked could not be done; a line on standard error has said why.
-fn run(rt: &HostRuntime) -> io::Result<bool> {
+fn arguments(rt: &HostRuntime) -> io::Result<Vec<String>> {
     let mut words = Vec::new(rt.alloc());
     for word in env::args(rt)?.skip(1) {
         words.push(word)?;
     }
-    match words.as_slice() {
-        [] => {
-            println!(rt; "{USAGE}")?;
-            Ok(true)
-        }
+    Ok(words)
+}
+
+fn run<'a>(rt: &HostRuntime, words: &'a [String]) -> Result<(), Failure<'a>> {
+    match words {
+        [] => Ok(println!(rt; "{USAGE}")?),
         [word, log] if word.as_str() == "dump" => dump(rt, log.as_str()),
         [word, log] if word.as_str() == "recompact" => recompact(rt, log.as_str()),
         [word, log, output] if word.as_str() == "find" => find(rt, log.as_str(), output.as_str()),
@@ -42,20 +45,26 @@ fn run(rt: &HostRuntime) -> io::Result<bool> {
             mtime.as_str(),
             inputs,
         ),
-        _ => {
-            eprintln!(rt; "{USAGE}")?;
-            Ok(false)
-        }
+        _ => Err(Failure::Usage),
     }
 }
 
+// Says on standard error why what was asked could not be done.
+fn complain(rt: &HostRuntime, failure: &Failure) -> ExitCode {
+    let _ = match failure {
+        Failure::Usage => eprintln!(rt; "{USAGE}"),
+        failure => eprintln!(rt; "hefnwyrad: {failure}"),
+    };
+    ExitCode::FAILURE
+}
+
 fn main(rt: HostRuntime) -> ExitCode {
-    match run(&rt) {
-        Ok(true) => ExitCode::SUCCESS,
-        Ok(false) => ExitCode::FAILURE,
-        Err(e) => {
-            let _ = eprintln!(rt; "hefnwyrad: {e}");
-            ExitCode::FAILURE
-        }
+    let words = match arguments(&rt) {
+        Ok(words) => words,
+        Err(e) => return complain(&rt, &Failure::Io(e)),
+    };
+    match run(&rt, &words) {
+        Ok(()) => ExitCode::SUCCESS,
+        Err(failure) => complain(&rt, &failure),
     }
 }

@@ -1,95 +1,60 @@
 // Noting in a log that lies in a file.
-use super::files::{LONGEST, read_log, replace_log};
-use super::opening::{STEADY, live_bytes, open, print_refusal, with_room};
+use super::change::{Change, change_log};
+use super::failure::Failure;
 use super::shown::Shown;
 use depslog::Log;
-use media::Bench;
 use medium::Medium;
+use notes::Given;
 use std::io;
-use terms::Place;
+use terms::{Place, Refusal};
 
-// The names of a note, one behind the other, and their places.
-#[derive(Drop)]
-struct Names {
-    bytes: Vec<u8>,
-    output: Place,
-    inputs: Vec<Place>,
+// A note, and then a sync.
+#[derive(Clone, Copy)]
+struct Noting<'a> {
+    note: Given<'a>,
 }
 
+impl Change for Noting<'_> {
+    fn make<M: Medium>(&self, log: &mut Log<M>) -> Result<(), (&'static str, Refusal)> {
+        log.note(&self.note).map_err(|refusal| ("note", refusal))?;
+        log.sync().map_err(|refusal| ("sync", refusal))
+    }
+}
+
+// Puts a name behind the others, and answers its place.
 fn put(bytes: &mut Vec<u8>, name: &str) -> io::Result<Place> {
     let start = bytes.len();
-    for b in name.as_bytes() {
-        bytes.push(*b)?;
-    }
+    bytes.extend_from_slice(name.as_bytes())?;
     Ok(Place {
         start,
         length: name.len(),
     })
 }
 
-fn names_of(rt: &HostRuntime, output: &str, inputs: &[String]) -> io::Result<Names> {
+// Notes in a log.
+pub(super) fn note<'a>(
+    rt: &HostRuntime,
+    path: &'a str,
+    output: &str,
+    mtime: &'a str,
+    inputs: &[String],
+) -> Result<(), Failure<'a>> {
+    let Ok(time) = mtime.parse::<u64>() else {
+        return Err(Failure::NoMtime(mtime));
+    };
     let mut bytes = Vec::new(rt.alloc());
-    let output = put(&mut bytes, output)?;
+    let place = put(&mut bytes, output)?;
     let mut places = Vec::new(rt.alloc());
     for input in inputs {
         places.push(put(&mut bytes, input.as_str())?)?;
     }
-    Ok(Names {
-        bytes,
-        output,
-        inputs: places,
-    })
-}
-
-// Opens a log on a medium, notes, syncs, and answers the live bytes; none, and a line on standard error, where a call is refused.
-fn note_on<M: Medium + Drop>(
-    rt: &HostRuntime,
-    path: &str,
-    medium: M,
-    names: &Names,
-    mtime: u64,
-) -> io::Result<Option<Vec<u8>>> {
-    let mut log = Log::new(rt.alloc(), medium)?;
-    if !open(rt, path, &mut log, "is dropped")? {
-        return Ok(None);
-    }
-    if let Err(refusal) = log.note(&names.bytes, names.output, mtime, &names.inputs) {
-        print_refusal(rt, path, "note", refusal)?;
-        return Ok(None);
-    }
-    if let Err(refusal) = log.sync() {
-        print_refusal(rt, path, "sync", refusal)?;
-        return Ok(None);
-    }
-    let medium = log.into_medium();
-    Ok(Some(live_bytes(rt, &medium)?))
-}
-
-// Notes in a log; false, and a line on standard error, where a call is refused or the file cannot be written: it stays as it is then.
-pub(super) fn note(
-    rt: &HostRuntime,
-    path: &str,
-    output: &str,
-    mtime: &str,
-    inputs: &[String],
-) -> io::Result<bool> {
-    let Ok(time) = mtime.parse::<u64>() else {
-        eprintln!(rt; "hefnwyrad: {mtime}: is no mtime, a number below 2 to the 64th")?;
-        return Ok(false);
+    let note = Given {
+        bytes: &bytes,
+        output: place,
+        mtime: time,
+        inputs: &places,
     };
-    let Some(image) = read_log(rt, path, true)? else {
-        return Ok(false);
-    };
-    let names = names_of(rt, output, inputs)?;
-    let mut live = with_room(rt, &image)?;
-    let mut draft = vec![in rt.alloc(); 0u8; LONGEST]?;
-    let bench = Bench::new(&mut live, &mut draft, image.len(), STEADY);
-    let Some(bytes) = note_on(rt, path, bench, &names, time)? else {
-        return Ok(false);
-    };
-    if bytes.as_slice() != image.as_slice() && !replace_log(rt, path, &bytes)? {
-        return Ok(false);
-    }
+    change_log(rt, path, &Noting { note })?;
     println!(rt; "note {}: noted", Shown(output.as_bytes()))?;
-    Ok(true)
+    Ok(())
 }

@@ -5,6 +5,7 @@ use Rattle.std.specs.List.{list_all, list_any}
 use Rattle.std.specs.Simd.{first_chunks}
 use Rattle.std.proofs.lemmas.List.{get_or-take, take_more, map_push}
 use Rattle.std.proofs.lemmas.Bool.{ne_eqb}
+use Rattle.std.proofs.lemmas.List.Recursion.{same_from_clauses}
 use Rattle.terms.specs.Lists.{every, ◌▷◌}
 use Rattle.terms.specs.Names.{holds_zero}
 use Rattle.image.specs.Reading.{word_at, words_of}
@@ -22,8 +23,7 @@ all-words p (suc n) xs =
 
 -- of all numbers, one of every
 pub all-every : (p : ℕ → Bool) (xs : List ℕ) → list_all p xs ≡ every p xs
-all-every p [] = refl
-all-every p (x ∷ xs) = ap (λ (b : Bool). p x && b) (all-every p xs)
+all-every p xs = same_from_clauses (list_all p) (every p) (λ x b. p x && b) refl (λ _ _. refl) (λ _ _. refl) xs
 
 -- the numbers of all chunks are all words
 pub words-made : (n : ℕ) (xs : List ℕ) → map (from_le_bytes w32) (first_chunks 4 n xs) ≡ words_of n xs

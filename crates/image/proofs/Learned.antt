@@ -1,8 +1,9 @@
 -- What a table keeps as it learns. Assumes nothing.
-use Rattle.std.proofs.Common.{◌≡◌, ℕ, ◌+◌, ◌^◌, ◌<◌, ◌≤◌, Bool, true, false, cond, not, ◌&&◌, ltb, leb, List, [], ◌∷◌, length, Some, None, vec_items, vec_len, Option, sym, refl, ap, ◌∙◌, arith}
+use Rattle.std.proofs.Common.{◌≡◌, ℕ, ◌+◌, ◌^◌, ◌<◌, ◌≤◌, true, false, cond, not, ◌&&◌, ltb, leb, List, [], ◌∷◌, length, Some, None, vec_items, vec_len, Option, sym, refl, ap, ◌∙◌, arith}
 use Rattle.std.specs.Str.{bytes_eq}
 use Rattle.std.proofs.lemmas.List.{length-map, length-take-le}
 use Rattle.std.proofs.lemmas.Bool.{and_from, and_left, and_right, and_parts, or_parts, not-true, not_from_true, not_from_false, lt-ltb, le-ltb, le-leb, ltb-true, cond-true, cond-false}
+use Rattle.std.proofs.lemmas.Option.{cond_some}
 use Rattle.terms.specs.Lists.{every, is_in, ◌▷◌}
 use Rattle.image.specs.declared.entry.DepsEntry.{DepsEntry}
 use Rattle.image.specs.declared.name.Name.{Name}
@@ -61,13 +62,9 @@ view-kept t =
 
 -- Answers ----------------------------------------------------------------------------------------------------------------
 
-some_by : (b : Bool) (xs ys : List ℕ) → Some ys ≡ cond b (Some xs) None → (ys ≡ xs) × (b ≡ true)
-some_by true xs ys e = (cc, refl)
-some_by false xs ys e = absurd (let z : ◌≡◌ {A = ℕ} 0 1 = cc in omega arith)
-
 -- a name that was made of some bytes
 pub name-made : (xs : List ℕ) (n : Name) → Some (text n) ≡ cond (is_name xs) (Some xs) None → (text n ≡ xs) × (is_name xs ≡ true)
-name-made xs n e = some_by (is_name xs) xs (text n) e
+name-made xs n e = let p = cond_some (is_name xs) xs (text n) (sym e) in (sym p.1, p.0)
 
 pub path-refused : (t : Table) (name : List ℕ) → takes_path t name ≡ false → (false, t) ≡ path_learned t name
 path-refused t name h = sym (cond-false (takes_path t name) (true, learn t (path name)) (false, t) h)

@@ -1,20 +1,16 @@
 -- Tests of every and of some member of a list. Assumes nothing.
-use Rattle.std.proofs.Common.{◌≡◌, ℕ, zero, suc, ◌+◌, Bool, true, false, cond, ◌||◌, List, [], ◌∷◌, set, is_some, Some, sym, refl, inl, inr}
+use Rattle.std.proofs.Common.{◌≡◌, ℕ, ◌+◌, ◌∙◌, Bool, true, false, cond, ◌||◌, List, [], ◌∷◌, set, is_some, Some, sym, refl, inl, inr}
 use Rattle.std.specs.Str.{bytes_eq}
 use Rattle.std.proofs.lemmas.Slice.Eq.{bytes_eq-Decides}
-use Rattle.std.proofs.lemmas.Bool.{and_from, and_parts, or_from, or_parts, cases_Bool, both_ways}
+use Rattle.std.proofs.lemmas.Bool.{and_from, and_parts, or_from, cases_Bool, both_ways}
+use Rattle.std.proofs.lemmas.List.Recursion.{and_push, and_set, or_push}
 use Rattle.terms.specs.Lists.{every, some, place_from, ◌▷◌}
 
 pub every_push : {A : Type 0} (p : A → Bool) (xs : List A) (x : A) → every p xs ≡ true → p x ≡ true → every p (xs ▷ x) ≡ true
-every_push p [] x e h = and_from (p x) true h refl
-every_push p (y ∷ ys) x e h =
-    let q = and_parts (p y) (every p ys) e in and_from (p y) (every p (ys ▷ x)) q.0 (every_push p ys x q.1 h)
+every_push p xs x e h = and_push (every p) p refl (λ _ _. refl) xs x ∙ and_from (every p xs) (p x) e h
 
 pub every_set : {A : Type 0} (p : A → Bool) (xs : List A) (i : ℕ) (x : A) → every p xs ≡ true → p x ≡ true → every p (set xs i x) ≡ true
-every_set p [] i x e h = refl
-every_set p (y ∷ ys) zero x e h = and_from (p x) (every p ys) h (and_parts (p y) (every p ys) e).1
-every_set p (y ∷ ys) (suc i) x e h =
-    let q = and_parts (p y) (every p ys) e in and_from (p y) (every p (set ys i x)) q.0 (every_set p ys i x q.1 h)
+every_set p xs i x e h = and_set (every p) p refl (λ _ _. refl) xs i x h e
 
 pub every_more : {A : Type 0} (p q : A → Bool) → ((x : A) → p x ≡ true → q x ≡ true) → (xs : List A) → every p xs ≡ true → every q xs ≡ true
 every_more p q f [] e = refl
@@ -22,9 +18,7 @@ every_more p q f (x ∷ xs) e =
     let r = and_parts (p x) (every p xs) e in and_from (q x) (every q xs) (f x r.0) (every_more p q f xs r.1)
 
 pub some_push : {A : Type 0} (p : A → Bool) (xs : List A) (x : A) → some p xs ≡ false → p x ≡ false → some p (xs ▷ x) ≡ false
-some_push p [] x e h = or_from (p x) false h refl
-some_push p (y ∷ ys) x e h =
-    let q = or_parts (p y) (some p ys) e in or_from (p y) (some p (ys ▷ x)) q.0 (some_push p ys x q.1 h)
+some_push p xs x e h = or_push (some p) p refl (λ _ _. refl) xs x ∙ or_from (some p xs) (p x) e h
 
 pub other_way : (m n : List ℕ) → bytes_eq m n ≡ false → bytes_eq n m ≡ false
 other_way m n e =

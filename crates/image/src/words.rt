@@ -1,4 +1,4 @@
-// Numbers in bytes, the lowest byte first.
+// The ids of a deps record in bytes, and a name without its padding.
 ghost use Rattle.std.specs.Prelude.{◌≡◌, ◌/◌, length, nat_lt};
 ghost use Rattle.terms.specs.Lists.{every};
 ghost use Rattle.image.specs.Reading.{words_of, unpadded};

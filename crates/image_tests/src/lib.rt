@@ -32,7 +32,7 @@ mod tests {
     // What filling a table from the header and these bytes answers.
     fn filled(heap: Global, behind: &[u8]) -> Result<Result<Filled, Refusal>, Fail> {
         let mut header = [0; 16];
-        let _ = write_header(&mut header);
+        write_header(&mut header)?;
         let mut image = Vec::new(heap);
         image.extend_from_slice(&header)?;
         image.extend_from_slice(behind)?;

@@ -1,5 +1,4 @@
-use Rattle.std.proofs.Common.{◌≡◌, map, length, false, sym, ◌∙◌, rules, tests, arith}
-use Rattle.std.specs.List.{zip}
+use Rattle.std.proofs.Common.{map, length, sym, ◌∙◌, rules, tests, arith}
 use Rattle.std.proofs.lemmas.Bool.{ne_eqb}
 use Rattle.std.proofs.lemmas.Iterator.{YieldsList-from_slice, YieldsList-from_zip}
 use Rattle.std.proofs.lemmas.Iterator.Search.{all_from_yields_List}

@@ -1,5 +1,5 @@
 -- The bytes at the front of an area. Assumes nothing.
-use Rattle.std.specs.Prelude.{◌≡◌, ℕ, ◌-◌, ◌*◌, ◌/◌, ◌≤◌, max, List, ◌++◌, length, take, drop}
+use Rattle.std.specs.Prelude.{◌≡◌, ℕ, ◌-◌, ◌*◌, ◌/◌, max, List, ◌++◌, length, take, drop}
 use Rattle.std.proofs.Common.{refl, ap, arith, rules}
 use Rattle.std.proofs.lemmas.List.{places, same_lists}
 use Rattle.medium.specs.State.{Bytes, all, settled, cut}

@@ -1,5 +1,5 @@
 -- What a store stands for: a bench, a paged medium, or one over any memory. Assumes nothing.
-use Rattle.std.specs.Prelude.{ℕ, min, true, List, length, take, Result}
+use Rattle.std.specs.Prelude.{ℕ, min, true, List, take, Result}
 use Rattle.std.specs.Borrow.{MutBor}
 use Rattle.medium.specs.declared.Fault.{Fault}
 use Rattle.medium.specs.State.{State, settled, none}

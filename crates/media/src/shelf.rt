@@ -6,7 +6,8 @@ ghost use Rattle.media.specs.Fill.{on_shelf, size_of};
 use crate::Area;
 
 // The first `len` bytes of the area count, as far as it goes and there is room; the first `durable` of these outlast a
-// failure. So every value has a meaning. A length stands beside the area, since a caller may lend it: it cannot grow.
+// failure. So every value has a meaning. A length stands beside the area, since a caller may lend it: it cannot grow. The room is
+// handed to each method, since it is that of both areas of a store, whose shelves are swapped.
 #[derive(Drop)]
 pub struct Shelf<A> {
     area: A,

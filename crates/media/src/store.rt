@@ -228,7 +228,9 @@ impl<A: Area, F: Failing> Medium for Store<A, F> {
         ensures failing { self.new.failing ≡ self.old.failing }
     {
         let room = self.room();
-        let keep = self.failing.keep(self.live.durable(room), self.live.count(room));
+        let keep = self
+            .failing
+            .keep(self.live.durable(room), self.live.count(room));
         self.fall(keep);
     }
 

@@ -1,4 +1,5 @@
-use media::{Bench, Paged, Plan};
+use media::Side::{Draft, Old};
+use media::{Bench, Paged, Plan, Side};
 use medium::{Fault, Medium, WriteBuffer};
 use std::process::Abort;
 use std::test::Fail;
@@ -30,40 +31,48 @@ fn survivors<M: Medium>(m: &mut M, out: &mut [u8]) -> Result<usize, Fault> {
     m.read(0, out)
 }
 
-// The survivors on a bench, or on a pile of two write buffers over one.
-fn told(plan: Plan, pile: bool, out: &mut [u8]) -> Result<usize, Fault> {
+fn on_bench(plan: Plan, out: &mut [u8]) -> Result<usize, Fault> {
     let mut live = [b'z'; 16];
     let mut draft = [0; 16];
     let mut bench = Bench::new(&mut live, &mut draft, 1, plan);
-    if !pile {
-        return survivors(&mut bench, out);
-    }
+    survivors(&mut bench, out)
+}
+
+// On two write buffers over a bench.
+fn on_pile(plan: Plan, out: &mut [u8]) -> Result<usize, Fault> {
+    let mut live = [b'z'; 16];
+    let mut draft = [0; 16];
+    let bench = Bench::new(&mut live, &mut draft, 1, plan);
     let mut two = WriteBuffer::new(WriteBuffer::new(bench));
     survivors(&mut two, out)
 }
 
-// A failure at `step` and `side` leaves a first part of the old live bytes, "zabcd", or, once promoted, of the draft, "xyzw":
-// as long as `left` says where none, one and all of the pending bytes are kept.
+// A failure at `step`, counted from 1 on, where 0 never comes, and `side` leaves a first part of the old live bytes, "zabcd",
+// or, once promoted, of the draft, "xyzw": as long as `left` says where none, one and all of the pending bytes are kept.
 #[derive(Clone, Copy, Drop)]
 struct Row {
     step: u64,
-    side: u8,
+    side: Side,
     promoted: bool,
     left: [usize; 3],
 }
 
-fn check_row(rt: &impl Abort, row: Row, pile: bool) -> Result<(), Fail> {
+// `told` answers the survivors of a plan.
+fn check_row<F>(rt: &impl Abort, row: Row, told: F) -> Result<(), Fail>
+where
+    F: Fn(Plan, &mut [u8]) -> Result<usize, Fault>,
+    requires { F.IsAlwaysCallable told }
+{
     let text: &[u8] = if row.promoted { b"xyzw" } else { b"zabcd" };
-    let kept = [0, 1, 9];
-    for i in 0..3 {
+    for (keep, left) in [0, 1, 9].into_iter().zip(row.left) {
         let mut out = [0; 8];
         let plan = Plan {
-            step: row.step,
-            keep: kept[i],
+            after: row.step.checked_sub(1),
+            keep,
             side: row.side,
         };
-        let n = told(plan, pile, &mut out)?;
-        assert_eq!(rt; n, row.left[i]);
+        let n = told(plan, &mut out)?;
+        assert_eq!(rt; n, left);
         assert!(rt; n <= text.len() && n <= 8);
         assert_eq!(rt; &out[0..n], &text[0..n]);
     }
@@ -71,49 +80,49 @@ fn check_row(rt: &impl Abort, row: Row, pile: bool) -> Result<(), Fail> {
 }
 
 // Step, side, promoted, left.
-const BENCH: [(u64, u8, bool, [usize; 3]); 20] = [
-    (0, 0, true, [4, 4, 4]),
-    (1, 0, false, [1, 2, 3]),
-    (1, 1, false, [1, 2, 3]),
-    (2, 0, false, [1, 2, 3]),
-    (2, 1, false, [1, 2, 3]),
-    (3, 0, false, [3, 4, 5]),
-    (3, 1, false, [3, 4, 5]),
-    (4, 0, false, [3, 4, 5]),
-    (4, 1, false, [3, 4, 5]),
-    (5, 0, false, [3, 4, 5]),
-    (5, 1, false, [3, 4, 5]),
-    (6, 0, false, [3, 4, 5]),
-    (6, 1, false, [3, 4, 5]),
-    (7, 0, false, [3, 4, 5]),
-    (7, 1, false, [3, 4, 5]),
-    (8, 0, false, [3, 4, 5]),
-    (8, 1, true, [3, 4, 4]),
-    (9, 0, true, [3, 4, 4]),
-    (9, 1, true, [3, 4, 4]),
-    (10, 1, true, [4, 4, 4]),
+const BENCH: [(u64, Side, bool, [usize; 3]); 20] = [
+    (0, Old, true, [4, 4, 4]),
+    (1, Old, false, [1, 2, 3]),
+    (1, Draft, false, [1, 2, 3]),
+    (2, Old, false, [1, 2, 3]),
+    (2, Draft, false, [1, 2, 3]),
+    (3, Old, false, [3, 4, 5]),
+    (3, Draft, false, [3, 4, 5]),
+    (4, Old, false, [3, 4, 5]),
+    (4, Draft, false, [3, 4, 5]),
+    (5, Old, false, [3, 4, 5]),
+    (5, Draft, false, [3, 4, 5]),
+    (6, Old, false, [3, 4, 5]),
+    (6, Draft, false, [3, 4, 5]),
+    (7, Old, false, [3, 4, 5]),
+    (7, Draft, false, [3, 4, 5]),
+    (8, Old, false, [3, 4, 5]),
+    (8, Draft, true, [3, 4, 4]),
+    (9, Old, true, [3, 4, 4]),
+    (9, Draft, true, [3, 4, 4]),
+    (10, Draft, true, [4, 4, 4]),
 ];
 
 // The buffers hold "cd" back, and a granted promote drops it: eight steps on the bench below.
-const PILE: [(u64, u8, bool, [usize; 3]); 18] = [
-    (0, 0, true, [4, 4, 4]),
-    (1, 0, false, [1, 2, 3]),
-    (1, 1, false, [1, 2, 3]),
-    (2, 0, false, [1, 2, 3]),
-    (2, 1, false, [1, 2, 3]),
-    (3, 0, false, [3, 3, 3]),
-    (3, 1, false, [3, 3, 3]),
-    (4, 0, false, [3, 3, 3]),
-    (4, 1, false, [3, 3, 3]),
-    (5, 0, false, [3, 3, 3]),
-    (5, 1, false, [3, 3, 3]),
-    (6, 0, false, [3, 3, 3]),
-    (6, 1, false, [3, 3, 3]),
-    (7, 0, false, [3, 3, 3]),
-    (7, 1, true, [3, 4, 4]),
-    (8, 0, true, [3, 4, 4]),
-    (8, 1, true, [3, 4, 4]),
-    (9, 1, true, [4, 4, 4]),
+const PILE: [(u64, Side, bool, [usize; 3]); 18] = [
+    (0, Old, true, [4, 4, 4]),
+    (1, Old, false, [1, 2, 3]),
+    (1, Draft, false, [1, 2, 3]),
+    (2, Old, false, [1, 2, 3]),
+    (2, Draft, false, [1, 2, 3]),
+    (3, Old, false, [3, 3, 3]),
+    (3, Draft, false, [3, 3, 3]),
+    (4, Old, false, [3, 3, 3]),
+    (4, Draft, false, [3, 3, 3]),
+    (5, Old, false, [3, 3, 3]),
+    (5, Draft, false, [3, 3, 3]),
+    (6, Old, false, [3, 3, 3]),
+    (6, Draft, false, [3, 3, 3]),
+    (7, Old, false, [3, 3, 3]),
+    (7, Draft, true, [3, 4, 4]),
+    (8, Old, true, [3, 4, 4]),
+    (8, Draft, true, [3, 4, 4]),
+    (9, Draft, true, [4, 4, 4]),
 ];
 
 #[test]
@@ -127,7 +136,7 @@ fn bench_fails_where_it_is_told(rt: HostRuntime) -> Result<(), Fail> {
                 promoted,
                 left,
             },
-            false,
+            on_bench,
         )?;
     }
     Ok(())
@@ -144,7 +153,7 @@ fn a_pile_loses_what_it_holds(rt: HostRuntime) -> Result<(), Fail> {
                 promoted,
                 left,
             },
-            true,
+            on_pile,
         )?;
     }
     Ok(())
@@ -165,9 +174,9 @@ fn thrice_on_pile(step: u64, keep: usize) -> Result<usize, Fault> {
     let mut live = [0; 1000];
     let mut draft = [0; 1000];
     let plan = Plan {
-        step,
+        after: step.checked_sub(1),
         keep,
-        side: 0,
+        side: Old,
     };
     let bench = Bench::new(&mut live, &mut draft, 0, plan);
     let mut two = WriteBuffer::new(WriteBuffer::new(bench));

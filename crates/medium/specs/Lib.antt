@@ -2,6 +2,7 @@ pub mod Faults
 pub mod State
 pub mod Failure
 pub mod Calls
+pub mod Held
 pub mod Holding
 pub mod View
 pub mod Refusals

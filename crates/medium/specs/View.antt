@@ -1,6 +1,6 @@
 -- What a write buffer stands for. M is the type of the medium below, and D its token. Assumes nothing.
 use Rattle.std.specs.Prelude.{ℕ, List}
-use Rattle.terms.specs.Few.{items}
+use Rattle.medium.specs.Held.{items}
 use Rattle.medium.specs.State.{State}
 use Rattle.medium.specs.declared.buffer.WriteBuffer.{WriteBuffer}
 use Rattle.medium.specs.Holding.{buffered, kept}

@@ -1,19 +1,19 @@
 // A medium over any medium, which holds live bytes back in an array of its own.
 ghost use Rattle.std.specs.Prelude.{◌≡◌, []};
-ghost use Rattle.terms.specs.Few.{items};
+ghost use Rattle.medium.specs.Held.{items};
 ghost use Rattle.medium.specs.Calls.{Appended, Synced, Begun, Drafted, DraftSynced, Promoted, Failed, Returned};
 ghost use Rattle.medium.specs.Holding.{Sized, Passed, PassedThen, HeldBack, lit};
 ghost use Rattle.medium.specs.View.{held_by, view};
 
+use crate::held::Held;
 use crate::{Fault, Medium, fits};
-use terms::Few;
 
 // The bytes of `held` are held back, as far as there is room for them below, and none while the power below is off. So every
 // value has a meaning.
 #[derive(Drop)]
 pub struct WriteBuffer<M: Medium> {
     below: M,
-    held: Few<u8, 512>,
+    held: Held,
 }
 
 // How many live bytes the medium below has, and how many are held.
@@ -31,7 +31,7 @@ impl<M: Medium> WriteBuffer<M> {
     {
         WriteBuffer {
             below,
-            held: Few::new(0),
+            held: Held::new(),
         }
     }
 

@@ -7,6 +7,7 @@ ghost use Rattle.medium.specs.State.{State};
 ghost use Rattle.medium.specs.Calls.{Measured, ReadOut, Appended, Synced, Begun, Drafted, DraftSynced, Promoted, Failed, Returned};
 
 mod buffer;
+mod held;
 mod refusals;
 
 pub use buffer::WriteBuffer;

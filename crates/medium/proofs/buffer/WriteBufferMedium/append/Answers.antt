@@ -1,7 +1,7 @@
-use Rattle.std.proofs.Common.{◌≡◌, ◌+◌, ◌<◌, length, [], ◌++◌, Ok, Err, sym, refl, ap, ◌∙◌, inr, arith, if◌then◌else◌}
+use Rattle.std.proofs.Common.{◌≡◌, ◌+◌, ◌<◌, length, [], ◌++◌, Ok, Err, sym, refl, ap, ◌∙◌, inl, inr, arith, if◌then◌else◌}
 use borrow.Author.Tests.{true-leb, false-leb}
 use Rattle.std.proofs.lemmas.Result.{err_from_is_err_and}
-use Rattle.terms.specs.Few.{items}
+use Rattle.medium.specs.Held.{items}
 use Rattle.medium.specs.Calls.{Appended}
 use Rattle.medium.specs.Holding.{kept, PassedThen, HeldBack}
 use Rattle.medium.proofs.Layers.{kept-fit, held_back, refused-test, granted-test, holds, passes}
@@ -27,6 +27,25 @@ returns-in_err-pass_held g c =
     let q : PassedThen (kept s ys) (Appended bs) s (Err e) t = inr (record { fault = e; answer = refl; passed = h.passed }) in
     let x = passes bs s xs ys _ _ z is (Err e) t (omega (arith, room, c.capacity.ensures)) many q in
     rw (h.held, p.1, p.2) (record { answer = held_back bs s (kept s xs) (Err e) t (kept t []) (kept-fit s xs) x; passed = x })
+
+pub returns-then-is_err : goal.returns-then-is_err
+returns-then-is_err g c =
+    let b = c.args.self.now in
+    let bs = c.args.bytes.now in
+    let s = g.M.Medium.state b.below in
+    let t = g.M.Medium.state c.append.new.self in
+    let xs = items b.held in
+    let ys = items c.extend_from_slice.new.self in
+    let z = c.in_ok-sizes.ensures in
+    let no = refused-test _ _ _ _ c.extend_from_slice.ensures.room (sym c.if-is_err.ensures.value) in
+    let h = c.in_ok-pass_held.ensures in
+    let kept-whole : ys ≡ items c.truncate.new.self = c.extend_from_slice.ensures.after ∙ ap (λ q. if q then (items c.truncate.new.self ++ bs) else items c.truncate.new.self) no in
+    let is = kept-whole ∙ c.truncate.ensures in
+    let many : 512 < length ys + length bs = rw kept-whole (false-leb _ _ (sym no)) in
+    let room = true-leb _ _ c.if-not-fits.ensures in
+    let q : PassedThen (kept s ys) (Appended bs) s c.append.result t = inl (record { between = g.M.Medium.state c.pass_held.new.self.below; passed = h.passed; made = c.append.ensures }) in
+    let x = passes bs s xs ys _ _ z is c.append.result t (omega (arith, room, c.capacity.ensures)) many q in
+    rw h.held (record { answer = held_back bs s (kept s xs) c.append.result t (kept t []) (kept-fit s xs) x; passed = x })
 
 pub returns : goal.returns
 returns g c =

@@ -1,5 +1,5 @@
 use Rattle.std.proofs.Common.{◌+◌, ◌<◌, ◌≤◌, length, append_assoc, arith}
-use Rattle.terms.specs.Few.{items}
+use Rattle.medium.specs.Held.{items}
 use Rattle.medium.specs.State.{all}
 use Rattle.medium.specs.Holding.{kept}
 use Rattle.medium.proofs.Layers.{length-kept}
@@ -22,7 +22,7 @@ returns g c =
     let size = length-kept s xs _ _ z in
     let w = append_assoc s.live.durable s.live.pending hs in
     let m = rw z.below at c.min-m.ensures in
-    let p = rw (z.below, c.as_slice.ensures.items) at c.copy_from_slice.ensures.after in (
+    let p = rw (z.below, c.as_slice.ensures) at c.copy_from_slice.ensures.after in (
       h.0,
       rw (← w) (on-count (all s.live) hs c.args.buf.now c.read.new.buf from n h.1 h.2 c.min-m.result k size le some m),
       rw (← w) (on (all s.live) hs c.args.buf.now c.read.new.buf from n h.1 h.2 c.min-m.result k size le some m xs c.copy_from_slice.new.self z.held p),

@@ -37,7 +37,7 @@ fn told<'a>(from: &'a DepsTable, id: usize, entry: &DepsEntry) -> Told<'a>
     }
 }
 
-// How many bytes there are. `into` is used to know which names are told already.
+// How many bytes there are. `into` is used to know which names are told already. An id is what is counted: the note says whose entry it tells.
 fn count_entries(from: &DepsTable, into: &mut DepsTable) -> usize
     ensures { result ≡ length (compact_bytes (view from.now)) }
 {
@@ -53,7 +53,8 @@ fn count_entries(from: &DepsTable, into: &mut DepsTable) -> usize
     total
 }
 
-// Drafts the notes of all entries, by the outputs' ids, and learns what they tell.
+// Drafts the notes of all entries, by the outputs' ids, and learns what they tell. The loop is not shared with `count_entries`, which cannot fail and asks for no room:
+// a closure for what is done with a note would carry all of this contract.
 fn draft_entries<M: Medium>(
     medium: &mut M,
     draft: &Draft<M>,

@@ -63,7 +63,7 @@ fn print_records(rt: &HostRuntime, image: &[u8], records: usize) -> io::Result<(
     Ok(())
 }
 
-// Each entry, by the output's id, and how many there are.
+// Each entry, by the output's id, and how many there are. The table answers by id, and the id is what is printed by its name.
 fn print_entries(rt: &HostRuntime, table: &DepsTable) -> io::Result<usize> {
     let mut count = 0usize;
     for id in 0..table.path_count() {

@@ -1,4 +1,4 @@
-// A list of at most `N` elements, which lie in the value itself.
+// A list of at most `N` elements, which lie in the value itself. It can be copied, as the kit's `ArrayVec` cannot.
 ghost use Rattle.std.specs.Prelude.{◌≡◌, ◌≤◌, length};
 
 pub struct Few<T, const N: usize> {

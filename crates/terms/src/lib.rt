@@ -93,6 +93,7 @@ pub enum Refusal {
 }
 
 impl Refusal {
+    // A match and no cast: variants that carry a place have no discriminants, and a `From` would not say which of a refusal's two numbers it gives.
     pub fn number(self) -> u8
         ensures { result ≡ number_of self }
     {

@@ -71,6 +71,18 @@ module _ {K : Type 0} (cmp : K → K → Ordering) (laws : IsTotalOrder cmp) (le
 pub lex_order : Order lex_le
 lex_order = order-of_cmp (slice_cmp nat_cmp) nat_list_cmp_total lex_le lex-is (λ xs ys e. (bytes_eq-Decides xs ys).0 (texts_ties xs ys ∙ e))
 
+pub lex_refl : (xs : List ℕ) → lex_le xs xs ≡ true
+lex_refl = lex_order.reflexive
+
+pub lex_antisym : (xs ys : List ℕ) → lex_le xs ys ≡ true → lex_le ys xs ≡ true → xs ≡ ys
+lex_antisym = lex_order.antisymmetric
+
+pub lex_trans : (xs ys zs : List ℕ) → lex_le xs ys ≡ true → lex_le ys zs ≡ true → lex_le xs zs ≡ true
+lex_trans = lex_order.transitive
+
+pub lex_total : (xs ys : List ℕ) → (lex_le xs ys || lex_le ys xs) ≡ true
+lex_total = lex_order.total
+
 pub nat_le-order : Order nat_le
 nat_le-order = order-of_cmp nat_cmp nat_cmp_total nat_le nat_le-is (λ x y e. (Decides-eqb x y).0 (unsigned_ties x y ∙ e))
 

@@ -17,14 +17,14 @@ pub struct Word {
 fn ends_word(b: u8) -> bool
     ensures { result ≡ ends b }
 {
-    matches!(b, b' ' | b':' | b'|')
+    matches!(char::from(b), ' ' | ':' | '|')
 }
 
 // Whether a `$` stands before this byte in a word.
 fn takes_sign(b: u8) -> bool
     ensures { result ≡ escapes b }
 {
-    matches!(b, b' ' | b':' | b'$')
+    matches!(char::from(b), ' ' | ':' | '$')
 }
 
 // What follows one byte of the name as the next bytes spell it, or nothing where the word ends before them; none where a `$` stands before a byte that takes none.

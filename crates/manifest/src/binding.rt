@@ -7,7 +7,6 @@ use words::{Class, all_of, begins, same_bytes, span_end};
 
 // Whether the binding that stands from `at` on is `deps = gcc`; none where it is no binding.
 pub(super) fn binding_at(bytes: &[u8], at: usize) -> Option<bool>
-    requires { at ≤ length bytes.now }
     ensures { result ≡ binding_of (drop at bytes.now) }
 {
     let key = span_end(bytes, at, Class::Space);

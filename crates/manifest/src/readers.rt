@@ -165,8 +165,7 @@ impl Reader<'_, '_, '_> {
     }
 
     fn read_indented(&mut self, text: &[u8], end: usize, at: usize) -> Result<(), Fault>
-        requires sound { Sound self.old }
-        requires within { at ≤ length (take end text.now) }
+        requires { Sound self.old }
         ensures sound { SoundIf result self.new }
         ensures said { told result (reading_of text.now self.new) ≡ read_indented (drop at (take end text.now)) (book_of text.now self.old) self.old.owner }
     {
@@ -186,8 +185,7 @@ impl Reader<'_, '_, '_> {
 
     // Reads the line that stands from `at` on and ends before `end`.
     fn read_line(&mut self, text: &[u8], end: usize, at: usize, line: usize) -> Result<(), Fault>
-        requires sound { Sound self.old }
-        requires within { at ≤ length (take end text.now) }
+        requires { Sound self.old }
         ensures sound { SoundIf result self.new }
         ensures said { told result (reading_of text.now self.new) ≡ read_line line (drop at (take end text.now)) (reading_of text.now self.old) }
     {

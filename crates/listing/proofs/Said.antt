@@ -6,12 +6,13 @@ use Rattle.std.proofs.lemmas.List.{drop-take, drop-drop, take-take, take_all, le
 use Rattle.std.proofs.lemmas.Bool.{cond-true, cond-false, and_from, and_left, and_right, not_from_false, not_from_true, lt-ltb, le-leb, lt-leb}
 use Rattle.terms.specs.declared.At.{At}
 use Rattle.terms.specs.Lists.{◌▷◌}
+use Rattle.terms.specs.Names.{is_name}
 use Rattle.words.specs.declared.class.Class.TheVariants.{Digit}
 use Rattle.words.specs.Runs.{is_of, front, beyond}
 use Rattle.words.proofs.Spans.{take-front, drop_run}
 use Rattle.listing.specs.declared.fault.ListingFault.{ListingFault}
 use Rattle.listing.specs.declared.fault.ListingFault.TheVariants.{BadLine, PastRows}
-use Rattle.listing.specs.Rows.{Listed, decimal, digits_of, name_of, is_name, is_row, row_of, is_listed, row_added, read_rows}
+use Rattle.listing.specs.Rows.{Listed, decimal, digits_of, name_of, is_row, row_of, is_listed, row_added, read_rows}
 
 -- a number that was found is the one that was meant
 pub found_number : (b : Bool) (n m : ℕ) → Some m ≡ cond b (Some n) None → (b ≡ true) × (m ≡ n)

@@ -12,5 +12,5 @@ mod row;
 pub use fault::ListingFault;
 pub use keys::Lines;
 pub use listing::Listing;
-pub use read::{listing_refusal, read_listing};
+pub use read::read_listing;
 pub use row::Row;

@@ -3,6 +3,5 @@ pub mod Bound
 pub mod Declares
 pub mod Lines
 pub mod Marks
-pub mod Oks
 pub mod Stores
 pub mod Twice

@@ -1,5 +1,6 @@
 pub mod Lexemes
 pub mod Lines
+pub mod Oks
 pub mod Spans
 pub mod Spells
 pub mod Walks

@@ -6,7 +6,7 @@ use Rattle.manifest.specs.Building.{rule_of}
 use Rattle.manifest.specs.Books.{read_rule}
 use Rattle.manifest.specs.Groups.{word_name, WordSums}
 use Rattle.manifest.specs.Kept.{book_of}
-use Rattle.manifest.proofs.Oks.{given}
+use Rattle.words.proofs.Oks.{given}
 use Rattle.manifest.proofs.Stores.{name-within}
 use Rattle.manifest.proofs.reader.Reader.read_rule.Goals as goal
 use Rattle.manifest.proofs.reader.Reader.read_rule.Goals.{In_ok-word}

@@ -9,7 +9,7 @@ use Rattle.manifest.specs.Groups.{word_name, built_shown}
 use Rattle.manifest.specs.Kept.{book_of}
 use Rattle.manifest.specs.Views.{declaration, making}
 use Rattle.manifest.proofs.Declares.{stated-many, stated-within}
-use Rattle.manifest.proofs.Oks.{given}
+use Rattle.words.proofs.Oks.{given}
 use Rattle.manifest.proofs.reader.Reader.state.Goals as goal
 use Rattle.manifest.proofs.reader.Reader.state.Goals.{In_ok-rule}
 

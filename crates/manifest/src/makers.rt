@@ -48,14 +48,13 @@ pub(super) fn made_twice(
 ) -> bool
     ensures { result ≡ twice (map (making text.now words.now) statements.now) (map (name_at text.now) outputs.now) }
 {
-    for j in 0..outputs.len() {
-        let name = Path::Spelled(outputs[j].of(text));
-        if maker(text, statements, words, name).is_some() {
+    let mut left = outputs;
+    while let Some((output, others)) = left.split_first() {
+        let name = Path::Spelled(output.of(text));
+        if maker(text, statements, words, name).is_some() || is_among(text, others, name) {
             return true;
         }
-        if is_among(text, part(outputs, j + 1, outputs.len()), name) {
-            return true;
-        }
+        left = others;
     }
     false
 }

@@ -7,7 +7,7 @@ ghost use Rattle.words.specs.Steps.{stepped, Leads, word_of};
 use terms::Place;
 
 // Where a word stands, and the length of the name that it spells.
-#[derive(Clone, Copy)]
+#[derive(Clone, Copy, PartialEq, Eq, Debug)]
 pub struct Word {
     pub place: Place,
     pub length: usize,

@@ -1,7 +1,7 @@
 // What stands in a line of words.
 use super::spelling::Word;
 
-#[derive(Clone, Copy)]
+#[derive(Clone, Copy, PartialEq, Eq, Debug)]
 pub enum Token {
     Colon,
     Bar,

@@ -7,10 +7,9 @@ ghost use Rattle.listing.specs.Shown.{listed, rows_told, listing_outcome, rows_s
 
 use super::entry::row_at;
 use super::fault::ListingFault;
-use super::keys::Lines;
 use super::listing::Listing;
 use super::row::Row;
-use lists::{GrowList, Name, first};
+use lists::{GrowList, first};
 use terms::Refusal;
 use words::{Line, TextLines};
 
@@ -24,16 +23,14 @@ fn add_row(rows: &mut GrowList<Row>, line: Line) -> Result<(), ListingFault>
     ensures said { rows_told result (map (listed line.entry.text.now) (items rows.new)) ≡ row_added (map (listed line.entry.text.now) (items rows.old)) (row_of (line_bytes line.entry)) }
 {
     let row = row_at(line).ok_or(ListingFault::BadLine)?;
-    let name = Name {
-        bytes: row.name.of(line.text),
-    };
-    if first(&Lines { bytes: line.text }, rows.as_slice(), name).is_some() {
+    let name = row.name.of(line.text);
+    if first(rows.as_slice(), |r| r.name.of(line.text), &name).is_some() {
         return Err(ListingFault::BadLine);
     }
     if rows.len() >= ROWS {
         return Err(ListingFault::PastRows);
     }
-    rows.push(row);
+    rows.push(row).unwrap();
     Ok(())
 }
 

@@ -1,16 +1,24 @@
 -- The place of the first member for which a test holds. Assumes nothing.
-use Rattle.std.proofs.Common.{◌≡◌, ℕ, zero, suc, ◌+◌, ◌<◌, Bool, true, false, cond, ◌||◌, List, [], ◌∷◌, map, length, get_or, drop, is_some, Some, None, Option, sym, refl, ap, ◌∙◌, subst, inl, inr, arith}
-use Rattle.std.proofs.lemmas.List.{at_drop_more}
+use Rattle.std.proofs.Common.{◌≡◌, ℕ, zero, suc, ◌+◌, Bool, true, false, cond, ◌||◌, ltb, List, [], ◌∷◌, map, length, is_some, Some, None, Option, sym, refl, ap, ◌∙◌, subst, inl, inr, arith}
+use Rattle.std.proofs.lemmas.Bool.Decides.{nat_tests}
+use Rattle.std.specs.Borrow.{Bor}
+use Rattle.std.specs.Fn.{Shared, FnReturnsAt}
+use Rattle.std.specs.List.{position, position_or_len}
 use Rattle.std.proofs.lemmas.Bool.{cases_Bool, both_ways, cond-true, cond-false}
 use Rattle.terms.specs.Lists.{some, place_from}
-use Rattle.lists.specs.First.{NoneTo, First}
+use Rattle.lists.specs.First.{NoneTo, First, TestsKey}
 
--- a turn of a loop that looks for it
-pub place_here : {X : Type 0} (i : ℕ) (p : X → Bool) (xs : List X) (d : X) → i < length xs → p (get_or xs i d) ≡ true → place_from i p (drop i xs) ≡ Some i
-place_here i p xs d h e = at_drop_more (place_from i p) xs i d h ∙ cond-true (p (get_or xs i d)) (Some i) (place_from (i + 1) p (drop (i + 1) xs)) e
+-- the place that `position` finds, the places counting from i on
+place-counted : {X : Type 0} (i : ℕ) (p : X → Bool) (xs : List X) → place_from i p xs ≡ cond (ltb (position_or_len p xs) (length xs)) (Some (i + position_or_len p xs)) None
+place-counted i p [] = refl
+place-counted i p (x ∷ xs) = let ih = place-counted (i + 1) p xs in grind (arith, nat_tests, ih)
 
-pub place-past : {X : Type 0} (i : ℕ) (p : X → Bool) (xs : List X) (d : X) → i < length xs → p (get_or xs i d) ≡ false → place_from i p (drop i xs) ≡ place_from (i + 1) p (drop (i + 1) xs)
-place-past i p xs d h e = at_drop_more (place_from i p) xs i d h ∙ cond-false (p (get_or xs i d)) (Some i) (place_from (i + 1) p (drop (i + 1) xs)) e
+pub place-is : {X : Type 0} (p : X → Bool) (xs : List X) → place_from 0 p xs ≡ position p xs
+place-is p xs = place-counted 0 p xs ∙ (let e : 0 + position_or_len p xs ≡ position_or_len p xs = omega arith in ap (λ n. cond (ltb (position_or_len p xs) (length xs)) (Some n) None) e)
+
+-- what a call of the test that compares the key says of the test that it stands for
+pub told : {F T K : Type 0} {calls : Shared F (Bor T × Unit {0}) K} {key : F} (eq : K → K → Bool) (asked : K) {has : T → Bool} → TestsKey calls key eq asked has → (x : T) (b : Bool) → (k : K) × FnReturnsAt calls key x k × (b ≡ eq asked k) → b ≡ has x
+told eq asked t x b w = w.2 ∙ sym (t x w.0 w.1)
 
 none_before : {X : Type 0} (p : X → Bool) (x : X) (xs : List X) (n : ℕ) → p x ≡ false → NoneTo (λ y. p y ≡ true) xs n → NoneTo (λ y. p y ≡ true) (x ∷ xs) (suc n)
 none_before p x xs n e f zero d h t = both_ways (p x) e t

@@ -1,3 +1,2 @@
-pub mod Held
 pub mod Finds
-pub mod Words
+pub mod Pushed

@@ -1,10 +1,11 @@
 // Making a list over lent memory, what it holds, and how it grows.
-ghost use Rattle.std.specs.Prelude.{◌≡◌, ◌≤◌, [], length, if◌then◌else◌, nat_lt, slice_set};
+ghost use Rattle.std.specs.Prelude.{◌≡◌, ◌≤◌, [], length, Ok, Err, if◌then◌else◌, nat_lt, slice_set};
 ghost use Rattle.std.specs.List.{slice_get};
 ghost use Rattle.terms.specs.Lists.{◌▷◌};
 ghost use Rattle.lists.specs.Grown.{items, room, over, lender};
 
 use super::grow::GrowList;
+use terms::NoRoom;
 
 impl<'a, T: Copy> GrowList<'a, T> {
     // A list that holds nothing yet. `lender` says that its memory is the caller's own, so that the caller knows what stands there afterwards.
@@ -20,52 +21,48 @@ impl<'a, T: Copy> GrowList<'a, T> {
         ensures count { result ≡ length (items self.now) }
         ensures within { result ≤ room self.now }
     {
-        self.len.min(self.memory.len())
+        self.as_slice().len()
     }
 
     // How many elements there is memory for.
     pub fn room(&self) -> usize
         ensures { result ≡ room self.now }
     {
-        let memory = &*self.memory;
-        memory.len()
+        self.memory.len()
     }
 
     pub fn as_slice(&self) -> &[T]
         ensures { result.now ≡ items self.now }
     {
-        &self.memory[0..self.len()]
+        &self.memory[..self.len]
     }
 
     pub fn into_slice(self) -> &'a [T]
         ensures { result.now ≡ items self.entry }
     {
-        let len = self.len();
         let memory = self.memory;
-        &memory[0..len]
+        &memory[..self.len]
     }
 
     pub fn get(&self, i: usize) -> Option<T>
         ensures { result ≡ slice_get (items self.now) i }
     {
-        let held = self.as_slice();
-        if i < held.len() { Some(held[i]) } else { None }
+        self.as_slice().get(i).copied()
     }
 
-    // One element more; false, and nothing changed, where there is no memory for it.
-    pub fn push(&mut self, x: T) -> bool
-        ensures full { result ≡ nat_lt (length (items self.old)) (room self.old) }
-        ensures items { items self.new ≡ (if result then (items self.old ▷ x) else items self.old) }
+    // One element more, unless there is no memory for it.
+    pub fn push(&mut self, x: T) -> Result<(), NoRoom>
+        ensures full { result ≡ (if nat_lt (length (items self.old)) (room self.old) then Ok tt else Err (record {})) }
+        ensures items { items self.new ≡ (if nat_lt (length (items self.old)) (room self.old) then (items self.old ▷ x) else items self.old) }
         ensures room { room self.new ≡ room self.old }
         ensures lender { lender self.new ≡ lender self.old }
     {
-        let len = self.len();
-        if len >= self.memory.len() {
-            return false;
+        if self.len >= self.memory.len() {
+            return Err(NoRoom);
         }
-        self.memory[len] = x;
-        self.len = len + 1;
-        true
+        self.memory[self.len] = x;
+        self.len += 1;
+        Ok(())
     }
 
     // Another element in the place of the i-th; nothing where there are not so many.
@@ -74,7 +71,7 @@ impl<'a, T: Copy> GrowList<'a, T> {
         ensures room { room self.new ≡ room self.old }
         ensures lender { lender self.new ≡ lender self.old }
     {
-        if i < self.len() {
+        if i < self.len {
             self.memory[i] = x;
         }
     }

@@ -4,11 +4,8 @@
 mod grow;
 mod grown;
 mod lookup;
-mod names;
-mod numbers;
 mod parts;
 
 pub use grow::GrowList;
-pub use lookup::{Key, Keys, first};
-pub use names::{Name, Places, find_name};
+pub use lookup::{find_name, first};
 pub use parts::part;

@@ -1,48 +1,31 @@
-// The first element of a list by its key, at any key that has a total order.
+// The first element of a list by its key, at any key that has a total order, and the first place of a name.
 ghost use Rattle.std.specs.Prelude.{◌≡◌, Bool, true};
+ghost use Rattle.std.specs.Fn.{FnReturnsAt};
+ghost use Rattle.std.specs.Str.{bytes_eq};
 ghost use Rattle.terms.specs.Lists.{place_from};
-ghost use Rattle.lists.specs.Order.{Order, same_by};
-ghost use Rattle.lists.specs.First.{First};
+ghost use Rattle.terms.specs.Places.{at_place};
+ghost use Rattle.lists.specs.First.{First, TestsKey};
 
-// A key, by what it stands for: two keys are the same where they stand for the same.
-pub trait Key: Copy {
-    ghost Model: { Type 0 };
-
-    ghost model: { Self → Model };
-
-    ghost le: { Model → Model → Bool };
-
-    // That it is a total order.
-    ghost order: { Order le };
-
-    fn at_most(self, other: Self) -> bool
-        ensures { result ≡ le (model self) (model other) };
-}
-
-// Where the key of an element is found: the element itself need not hold it. `has c x k` says whether k is the key of x.
-pub trait Keys<T, K: Key> {
-    ghost has: { Self → T → K → Bool };
-
-    fn key(&self, x: T) -> K
-        ensures { (k : K) → has self.now x k ≡ same_by K.Key.le (K.Key.model result) (K.Key.model k) };
-}
-
-// Whether two keys stand for the same.
-fn same<K: Key>(a: K, b: K) -> bool
-    ensures { result ≡ same_by K.Key.le (K.Key.model a) (K.Key.model b) }
-{
-    a.at_most(b) && b.at_most(a)
-}
+use terms::Place;
 
 // The index of the first element with the asked key; none exactly where no element has it.
-pub fn first<T: Copy, K: Key, C: Keys<T, K>>(context: &C, list: &[T], asked: K) -> Option<usize>
-    ensures place { result ≡ place_from 0 (λ x. C.Keys.has context.now x asked) list.now }
-    ensures first { First (λ x. C.Keys.has context.now x asked ≡ true) list.now result }
+// `has` is any test that holds of an element just where its key is the asked one.
+pub fn first<T, K: Ord + Drop, F: Fn(&T) -> K>(list: &[T], key: F, asked: &K) -> Option<usize>
+    requires { F.IsAlwaysCallable key }
+    ensures place { (has : T → Bool) → TestsKey F.Fn key K.eq asked.now has → result ≡ place_from 0 has list.now }
+    ensures first { (has : T → Bool) → TestsKey F.Fn key K.eq asked.now has → First (λ x. has x ≡ true) list.now result }
 {
-    for i in 0..list.len() {
-        if same(context.key(list[i]), asked) {
-            return Some(i);
-        }
-    }
-    None
+    list.iter().position(
+        |x|
+            requires { F.IsAlwaysCallable key }
+            ensures { (k : K) × FnReturnsAt F.Fn key x.now k × (result ≡ K.eq asked.entry.now k) }
+        { *asked == key(x) },
+    )
+}
+
+// The index of the first place where this name stands.
+pub fn find_name(bytes: &[u8], places: &[Place], name: &[u8]) -> Option<usize>
+    ensures { result ≡ place_from 0 (λ x. bytes_eq name.now (at_place bytes.now x)) places.now }
+{
+    first(places, |place| place.of(bytes), &name)
 }

@@ -5,7 +5,6 @@ ghost use Rattle.std.specs.Prelude.{◌≡◌, take, drop};
 pub fn part<T>(xs: &[T], start: usize, count: usize) -> &[T]
     ensures { result.now ≡ take count (drop start xs.now) }
 {
-    let start = start.min(xs.len());
-    let past = start + count.min(xs.len() - start);
-    &xs[start..past]
+    let rest = &xs[start.min(xs.len())..];
+    &rest[..count.min(rest.len())]
 }

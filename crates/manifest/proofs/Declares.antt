@@ -12,10 +12,6 @@ pub none_from : {A : Type 0} (o : Option A) → is_some o ≡ false → o ≡ No
 none_from None e = refl
 none_from (Some x) e = absurd (both_ways true e refl)
 
--- an element more, where there is memory for it
-pub pushed : {T : Type 0} (old new : List T) (x : T) (r : Bool) (room : ℕ) → length old < room → r ≡ ltb (length old) room → new ≡ cond r (old ▷ x) old → new ≡ old ▷ x
-pushed old new x r room h e f = f ∙ cond-true r (old ▷ x) old (e ∙ lt-ltb (length old) room h)
-
 module _ (b : Book) (name : List ℕ) (o : Option ℕ) (e : o ≡ None) where
   pub declared_many : 64 ≤ length b.rules → Err PastLimit ≡ declared_by b name o
   declared_many h =

@@ -7,7 +7,6 @@ mod built;
 mod fault;
 mod group;
 mod groups;
-mod keys;
 mod kind;
 mod limits;
 mod line;
@@ -21,7 +20,6 @@ mod rule;
 mod store;
 
 pub use fault::Fault;
-pub use keys::Text;
 pub use kind::Kind;
 pub use line::kind_at;
 pub use makers::{is_among, maker, rule_number};

@@ -75,10 +75,12 @@ impl Reader<'_, '_, '_> {
         if word.length > LONGEST {
             return Err(Fault::PastLimit);
         }
-        self.rules.push(Rule {
+        self.rules
+            .push(Rule {
             name: word.place,
             keeps: false,
-        });
+        })
+        .unwrap();
         self.owner = Some(Owner::LastRule);
         Ok(())
     }
@@ -111,7 +113,8 @@ impl Reader<'_, '_, '_> {
             plain: built.inputs.plain.count,
             implicit: built.inputs.implicit.count,
             order: built.inputs.order.count,
-        });
+        })
+        .unwrap();
         self.owner = Some(Owner::LastStatement);
         let words = self.words.as_slice();
         let others = part(self.statements.as_slice(), 0, before);

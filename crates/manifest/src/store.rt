@@ -22,7 +22,7 @@ pub(super) fn store(words: &mut GrowList<Place>, line: Line, at: usize)
         let Token::Word(word) = token else {
             return;
         };
-        words.push(word.place);
+        words.push(word.place).unwrap();
         here = next;
     }
 }

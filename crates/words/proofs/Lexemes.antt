@@ -1,8 +1,8 @@
 -- The tokens of a line, one by one. Assumes nothing.
-use Rattle.std.proofs.Common.{◌≡◌, ℕ, zero, suc, ◌+◌, ◌-◌, ◌<◌, ◌≤◌, Bool, true, false, cond, eqb, List, [], ◌∷◌, ◌++◌, length, get_or, drop, Some, None, Option, sym, refl, ap, ◌∙◌, subst, inl, inr, arith}
+use Rattle.std.proofs.Common.{◌≡◌, ℕ, zero, suc, ◌+◌, ◌≤◌, Bool, true, false, cond, eqb, List, [], ◌∷◌, ◌++◌, length, take, drop, Some, None, Option, sym, refl, ap, ◌∙◌, subst, inl, inr, arith}
 use Rattle.std.specs.Option.{option_map}
-use Rattle.std.proofs.lemmas.List.{drop_more, drop_all, drop-drop, length-drop}
-use Rattle.std.proofs.lemmas.Bool.{cases_Bool, cond-true, cond-false, or_from, eq-eqb, ne_eqb}
+use Rattle.std.proofs.lemmas.List.{take_all, drop-drop, length-drop}
+use Rattle.std.proofs.lemmas.Bool.{cases_Bool, cond-true, cond-false, or_from, ne_eqb}
 use Rattle.words.specs.declared.class.Class.TheVariants.{Space}
 use Rattle.words.specs.Runs.{is_of, front, beyond}
 use Rattle.words.specs.Spelling.{ends, Spelled, nothing, further, spelling, word, name_at}
@@ -10,11 +10,7 @@ use Rattle.words.specs.Tokens.{Lexeme, colon, bar, bars, wrong, named, word_begu
 use Rattle.words.proofs.Spans.{drop_run}
 use Rattle.words.proofs.Spells.{Spells, spells}
 use Rattle.words.specs.Steps.{word_of}
-use Rattle.words.specs.Shown.{Counted}
 use Rattle.words.specs.declared.spelling.Word.{Word}
-use Rattle.words.specs.declared.token.Token.{Token}
-use Rattle.words.specs.declared.token.Token.TheVariants.{Colon, Bar, Bars, Wrong, End}
-use Rattle.words.specs.declared.token.Token.TheVariants as marks
 
 -- bytes that are passed over
 past_is : (n : ℕ) (bs : List ℕ) → tokens_past n bs ≡ tokens (drop n bs)
@@ -68,55 +64,8 @@ beyond_head (b ∷ bs) c cs e =
       | inr f ↦ (let g : b ∷ bs ≡ c ∷ cs = sym (cond-false (eqb b 32) (beyond (is_of Space) bs) (b ∷ bs) f) ∙ e in let h : b ≡ c = cc in ap (λ x. eqb x 32) (sym h) ∙ f)
     ]
 
-module _ (xs : List ℕ) (at start : ℕ) (s : start ≡ at + length (front (is_of Space) (drop at xs))) where
-  rest-is : drop start xs ≡ beyond (is_of Space) (drop at xs)
-  rest-is = ap (λ (k : ℕ). drop k xs) s ∙ drop_run (is_of Space) xs at
-
-  front-is : front_token (drop at xs) ≡ spaced (length (front (is_of Space) (drop at xs))) (front_token (drop start xs))
-  front-is = front_spaces (drop at xs) ∙ ap (λ bs. spaced (length (front (is_of Space) (drop at xs))) (front_token bs)) (sym rest-is)
-
-  -- nothing but spaces is left
-  pub front-none : length xs ≤ start → ([] ≡ (front_token (drop at xs)).0) × (start ≡ at + (front_token (drop at xs)).1)
-  front-none h =
-      let e = front-is ∙ ap (λ bs. spaced (length (front (is_of Space) (drop at xs))) (front_token bs)) (drop_all start xs h) in
-      (sym (ap (λ (f : Taken). f.0) e), omega (arith, ap (λ (f : Taken). f.1) e))
-
-  module _ (h : start < length xs) where
-    more : drop start xs ≡ get_or xs start 0 ∷ drop (start + 1) xs
-    more = drop_more xs start 0 h
-
-    front-struck : front_token (drop start xs) ≡ ((struck (get_or xs start 0) (drop (start + 1) xs)).0, suc (struck (get_or xs start 0) (drop (start + 1) xs)).1)
-    front-struck = ap front_token more ∙ cond-false (eqb (get_or xs start 0) 32) _ _ (beyond_head (drop at xs) (get_or xs start 0) (drop (start + 1) xs) (sym rest-is ∙ more))
-
-    -- the byte behind the spaces begins something
-    pub front-begun : (ts : List Lexeme) (n : ℕ) → struck (get_or xs start 0) (drop (start + 1) xs) ≡ (ts, n) → (ts ≡ (front_token (drop at xs)).0) × (start + 1 + n ≡ at + (front_token (drop at xs)).1)
-    front-begun ts n e =
-        let f = front-is ∙ ap (spaced (length (front (is_of Space) (drop at xs)))) (front-struck ∙ ap (λ (x : Taken). (x.0, suc x.1)) e) in
-        (sym (ap (λ (x : Taken). x.0) f), omega (arith, ap (λ (x : Taken). x.1) f))
-
-    pub not-space : eqb (get_or xs start 0) 32 ≡ false
-    not-space = beyond_head (drop at xs) (get_or xs start 0) (drop (start + 1) xs) (sym rest-is ∙ more)
-
--- Marks -----------------------------------------------------------------------------------------------------------------
-
-pub struck-colon : (b : ℕ) (bs : List ℕ) → b ≡ 58 → struck b bs ≡ (colon ∷ [], 0)
-struck-colon b bs e = cond-true (eqb b 58) _ _ (eq-eqb b 58 e)
-
-pub struck-bar : (b : ℕ) (bs : List ℕ) → b ≡ 124 → struck b bs ≡ ((bar_begun bs).0, (bar_begun bs).1)
-struck-bar b bs e = ap (λ c. struck c bs) e
-
-pub struck-word : (b : ℕ) (bs : List ℕ) → (b ≡ 58 → ⊥) → (b ≡ 124 → ⊥) → struck b bs ≡ word_begun (word (b ∷ bs)) (length bs)
+struck-word : (b : ℕ) (bs : List ℕ) → (b ≡ 58 → ⊥) → (b ≡ 124 → ⊥) → struck b bs ≡ word_begun (word (b ∷ bs)) (length bs)
 struck-word b bs m n = cond-false (eqb b 58) _ _ (ne_eqb b 58 m) ∙ cond-false (eqb b 124) _ _ (ne_eqb b 124 n)
-
-module _ (xs : List ℕ) (start : ℕ) where
-  pub bar-last : length xs - start ≡ 1 → bar_begun (drop (start + 1) xs) ≡ (bar ∷ [], 0)
-  bar-last e = ap bar_begun (drop_all (start + 1) xs (omega arith))
-
-  pub bar-twice : start + 1 < length xs → get_or xs (start + 1) 0 ≡ 124 → bar_begun (drop (start + 1) xs) ≡ (bars ∷ [], 1)
-  bar-twice h e = ap bar_begun (drop_more xs (start + 1) 0 h) ∙ cond-true (eqb (get_or xs (start + 1) 0) 124) _ _ (eq-eqb (get_or xs (start + 1) 0) 124 e)
-
-  pub bar_once : start + 1 < length xs → (get_or xs (start + 1) 0 ≡ 124 → ⊥) → bar_begun (drop (start + 1) xs) ≡ (bar ∷ [], 0)
-  bar_once h e = ap bar_begun (drop_more xs (start + 1) 0 h) ∙ cond-false (eqb (get_or xs (start + 1) 0) 124) _ _ (ne_eqb (get_or xs (start + 1) 0) 124 e)
 
 -- Words -----------------------------------------------------------------------------------------------------------------
 
@@ -134,54 +83,80 @@ word-long b bs e =
     subst Long (sym (cond-false (ends b) (Some nothing) (option_map (further (eqb b 36) b) (spelling (eqb b 36) bs)) e)) (further-long (eqb b 36) b (spelling (eqb b 36) bs))
 
 -- what a word that was read at an offset is
-pub record WordRead (xs : List ℕ) (start : ℕ) (w : Word) : Type 0 where
+pub record WordRead (xs : List ℕ) (at start : ℕ) (w : Word) : Type 0 where
   pub begins : w.place.start ≡ start
   pub some : 1 ≤ w.place.length
   pub within : start + w.place.length ≤ length xs
   pub counts : w.length ≡ length (name_at xs w.place)
-  pub token : struck (get_or xs start 0) (drop (start + 1) xs) ≡ (named (name_at xs w.place) ∷ [], w.place.length - 1)
+  pub first : named (name_at xs w.place) ∷ [] ≡ (front_token (drop at xs)).0
+  pub next : start + w.place.length ≡ at + (front_token (drop at xs)).1
 
-module _ (xs : List ℕ) (start : ℕ) (h : start < length xs) (x : eqb (get_or xs start 0) 32 ≡ false) (m : get_or xs start 0 ≡ 58 → ⊥) (n : get_or xs start 0 ≡ 124 → ⊥) where
-  struck-is : struck (get_or xs start 0) (drop (start + 1) xs) ≡ word_begun (word (drop start xs)) (length (drop (start + 1) xs))
-  struck-is = struck-word (get_or xs start 0) (drop (start + 1) xs) m n ∙ ap (λ bs. word_begun (word bs) (length (drop (start + 1) xs))) (sym (drop_more xs start 0 h))
+module _ (xs : List ℕ) (at start : ℕ) (s : start ≡ at + length (front (is_of Space) (drop at xs))) (ys : List ℕ) (p : ys ≡ take (length xs) (drop start xs)) where
+  all-is : ys ≡ drop start xs
+  all-is = p ∙ take_all (length xs) (drop start xs) (omega (arith, length-drop start xs))
 
-  long : Long (word (drop start xs))
-  long =
-      subst (λ bs. Long (word bs)) (sym (drop_more xs start 0 h))
-      (word-long (get_or xs start 0) (drop (start + 1) xs) (or_from (eqb (get_or xs start 0) 32) _ x (or_from (eqb (get_or xs start 0) 58) (eqb (get_or xs start 0) 124) (ne_eqb _ 58 m) (ne_eqb _ 124 n))))
+  rest-is : drop start xs ≡ beyond (is_of Space) (drop at xs)
+  rest-is = ap (λ (k : ℕ). drop k xs) s ∙ drop_run (is_of Space) xs at
 
-  read_as_lem : (o : Option Spelled) (w : Word) → word (drop start xs) ≡ o → Some w ≡ option_map (word_of start) o → WordRead xs start w
-  read_as_lem None w e f = absurd (let z : ◌≡◌ {A = ℕ} 0 1 = cc in omega arith)
-  read_as_lem (Some s) w e f =
-      let g : w ≡ word_of start s = cc in
-      let sp = subst (λ o. Spells false (drop start xs) o) e (spells false (drop start xs)) in
-      let l : 1 ≤ s.taken = subst Long e long in
-      subst (WordRead xs start) (sym g) (record {
-        begins = refl;
-        some = l;
-        within = omega (arith, sp.0, length-drop start xs);
-        counts = ap length (sym sp.1);
-        token = struck-is ∙ ap (λ o. word_begun o (length (drop (start + 1) xs))) e ∙ ap (λ ns. (named ns ∷ [], s.taken - 1)) (sym sp.1);
-      })
+  front-is : front_token (drop at xs) ≡ spaced (length (front (is_of Space) (drop at xs))) (front_token (drop start xs))
+  front-is = front_spaces (drop at xs) ∙ ap (λ bs. spaced (length (front (is_of Space) (drop at xs))) (front_token bs)) (sym rest-is)
 
-  pub word_read : (w : Word) → Some w ≡ option_map (word_of start) (word (drop start xs)) → WordRead xs start w
-  word_read w f = read_as_lem (word (drop start xs)) w refl f
+  -- what stands first behind the spaces
+  pub behind_spaces : (ts : List Lexeme) (n : ℕ) → ts ≡ (front_token ys).0 → n ≡ (front_token ys).1 → (ts ≡ (front_token (drop at xs)).0) × (start + n ≡ at + (front_token (drop at xs)).1)
+  behind_spaces ts n e f =
+      let g : front_token ys ≡ front_token (drop start xs) = ap front_token all-is in
+      (e ∙ ap (λ (x : Taken). x.0) g ∙ sym (ap (λ (x : Taken). x.0) front-is), omega (arith, f, ap (λ (x : Taken). x.1) g, ap (λ (x : Taken). x.1) front-is))
 
-  none_as : (o : Option Spelled) → word (drop start xs) ≡ o → None ≡ option_map (word_of start) o → struck (get_or xs start 0) (drop (start + 1) xs) ≡ (wrong ∷ [], length (drop (start + 1) xs))
-  none_as None e f = struck-is ∙ ap (λ o. word_begun o (length (drop (start + 1) xs))) e
-  none_as (Some s) e f = absurd (let z : ◌≡◌ {A = ℕ} 0 1 = cc in omega arith)
+  -- a byte behind them that is no mark begins a word
+  module _ (b : ℕ) (bs : List ℕ) (q : ys ≡ b ∷ bs) (m : b ≡ 58 → ⊥) (n : b ≡ 124 → ⊥) where
+    r : drop start xs ≡ b ∷ bs
+    r = sym all-is ∙ q
 
-  pub word-wrong : None ≡ option_map (word_of start) (word (drop start xs)) → struck (get_or xs start 0) (drop (start + 1) xs) ≡ (wrong ∷ [], length (drop (start + 1) xs))
-  word-wrong f = none_as (word (drop start xs)) refl f
+    not-space : eqb b 32 ≡ false
+    not-space = beyond_head (drop at xs) b bs (sym rest-is ∙ r)
 
--- what is said of a token from an offset on is said from one before it
-pub counted_wider : (xs : List ℕ) (at start next : ℕ) (t : Token) → at ≤ start → Counted xs start t next → Counted xs at t next
-counted_wider xs at start next Colon h c = tt
-counted_wider xs at start next Bar h c = tt
-counted_wider xs at start next Bars h c = tt
-counted_wider xs at start next Wrong h c = tt
-counted_wider xs at start next (marks.Word w) h c = (c.0, c.1, omega (arith, c.2), c.3)
-counted_wider xs at start next End h c = tt
+    front-word : front_token (drop start xs) ≡ ((word_begun (word (drop start xs)) (length bs)).0, suc (word_begun (word (drop start xs)) (length bs)).1)
+    front-word =
+        ap front_token r ∙ cond-false (eqb b 32) _ _ not-space ∙
+        ap (λ (x : Taken). (x.0, suc x.1)) (struck-word b bs m n ∙ ap (λ ys. word_begun (word ys) (length bs)) (sym r))
+
+    long : Long (word (drop start xs))
+    long = subst (λ ys. Long (word ys)) (sym r) (word-long b bs (or_from (eqb b 32) _ not-space (or_from (eqb b 58) (eqb b 124) (ne_eqb b 58 m) (ne_eqb b 124 n))))
+
+    -- by the word that was looked for there
+    told : (o : Option Spelled) → word (drop start xs) ≡ o → (ts : List Lexeme) (k : ℕ) → ts ≡ (word_begun o (length bs)).0 → k ≡ suc (word_begun o (length bs)).1 → (ts ≡ (front_token (drop at xs)).0) × (start + k ≡ at + (front_token (drop at xs)).1)
+    told o e ts k f g =
+        let h : front_token ys ≡ ((word_begun o (length bs)).0, suc (word_begun o (length bs)).1) =
+        ap front_token all-is ∙ front-word ∙ ap (λ o. ((word_begun o (length bs)).0, suc (word_begun o (length bs)).1)) e in
+        behind_spaces ts k (f ∙ sym (ap (λ (x : Taken). x.0) h)) (g ∙ sym (ap (λ (x : Taken). x.1) h))
+
+    read_as_lem : (o : Option Spelled) (w : Word) → word (drop start xs) ≡ o → Some w ≡ option_map (word_of start) o → WordRead xs at start w
+    read_as_lem None w e f = absurd (let z : ◌≡◌ {A = ℕ} 0 1 = cc in omega arith)
+    read_as_lem (Some w') w e f =
+        let g : w ≡ word_of start w' = cc in
+        let sp = subst (λ o. Spells false (drop start xs) o) e (spells false (drop start xs)) in
+        let l : 1 ≤ w'.taken = subst Long e long in
+        let t = told (Some w') e (named (name_at xs (word_of start w').place) ∷ []) w'.taken (ap (λ ns. named ns ∷ []) sp.1) (omega arith) in
+        subst (WordRead xs at start) (sym g) (record {
+          begins = refl;
+          some = l;
+          within = omega (arith, sp.0, length-drop start xs);
+          counts = ap length (sym sp.1);
+          first = t.0;
+          next = t.1;
+        })
+
+    pub word_read : (w : Word) → Some w ≡ option_map (word_of start) (word (drop start xs)) → WordRead xs at start w
+    word_read w f = read_as_lem (word (drop start xs)) w refl f
+
+    wrong_as : (o : Option Spelled) → word (drop start xs) ≡ o → None ≡ option_map (word_of start) o → (wrong ∷ [] ≡ (front_token (drop at xs)).0) × (length xs ≡ at + (front_token (drop at xs)).1)
+    wrong_as None e f =
+        let t = told None e (wrong ∷ []) (suc (length bs)) refl refl in
+        (t.0, omega (arith, t.1, ap length r, length-drop start xs))
+    wrong_as (Some w') e f = absurd (let z : ◌≡◌ {A = ℕ} 0 1 = cc in omega arith)
+
+    pub word-wrong : None ≡ option_map (word_of start) (word (drop start xs)) → (wrong ∷ [] ≡ (front_token (drop at xs)).0) × (length xs ≡ at + (front_token (drop at xs)).1)
+    word-wrong f = wrong_as (word (drop start xs)) refl f
 
 -- where nothing stands first, nothing stands there at all
 bar-some : (bs : List ℕ) → length (bar_begun bs).0 ≡ 1

@@ -3,4 +3,3 @@ pub mod Lines
 pub mod Oks
 pub mod Spans
 pub mod Spells
-pub mod Walks

@@ -1,13 +1,9 @@
 -- Runs at the front of a list. Assumes nothing.
-use Rattle.std.proofs.Common.{◌≡◌, ℕ, suc, ◌+◌, ◌<◌, ◌≤◌, Bool, true, false, cond, ◌&&◌, leb, List, [], ◌∷◌, length, get_or, take, drop, sym, refl, ap, ◌∙◌, inl, inr, arith}
-use Rattle.std.proofs.lemmas.List.{at_drop_more, at_drop_all, drop-drop, length-drop}
-use Rattle.std.proofs.lemmas.Bool.{cond-true, cond-false, cases_lt, le-leb, lt-leb}
+use Rattle.std.proofs.Common.{◌≡◌, ℕ, suc, ◌+◌, ◌≤◌, Bool, true, false, cond, ◌&&◌, List, [], ◌∷◌, length, take, drop, sym, refl, ap, ◌∙◌, arith}
+use Rattle.std.proofs.lemmas.List.{drop-drop, length-drop}
+use Rattle.std.specs.List.{list_all, prefix_len}
 use Rattle.terms.specs.Lists.{every}
 use Rattle.words.specs.Runs.{front, beyond}
-
-leb-suc : (a b : ℕ) → leb (suc a) (suc b) ≡ leb a b
-leb-suc a b =
-    elim (cases_lt b a) [ inl h ↦ lt-leb (suc a) (suc b) (omega arith) ∙ sym (lt-leb a b h) | inr h ↦ le-leb (suc a) (suc b) (omega arith) ∙ sym (le-leb a b h) ]
 
 module _ {A : Type 0} (p : A → Bool) where
   pub front-short : (xs : List A) → length (front p xs) ≤ length xs
@@ -32,31 +28,12 @@ module _ {A : Type 0} (p : A → Bool) where
   pub run_short : (xs : List A) (at : ℕ) → at ≤ length xs → at + length (front p (drop at xs)) ≤ length xs
   run_short xs at h = omega (arith, front-short (drop at xs), length-drop at xs)
 
-  -- all pass exactly where the run is as long as the list
-  every_front : (xs : List A) → every p xs ≡ leb (length xs) (length (front p xs))
-  every_front [] = refl
-  every_front (x ∷ xs) =
-      elim (p x) as (λ b. (b && every p xs) ≡ leb (suc (length xs)) (length (cond b (x ∷ front p xs) []))) [ true ↦ every_front xs ∙ sym (leb-suc (length xs) (length (front p xs))) | false ↦ sym (lt-leb (suc (length xs)) 0 (omega arith)) ]
+  -- how long the run is, as `take_while` tells it
+  pub length-front : (xs : List A) → length (front p xs) ≡ prefix_len p xs
+  length-front [] = refl
+  length-front (x ∷ xs) = elim (p x) as (λ b. length (cond b (x ∷ front p xs) []) ≡ cond b (1 + prefix_len p xs) 0) [ true ↦ (let ih = length-front xs in omega arith) | false ↦ refl ]
 
-  pub every_run : (xs : List A) (at : ℕ) → every p (drop at xs) ≡ leb (length xs) (at + length (front p (drop at xs)))
-  every_run xs at =
-      every_front (drop at xs) ∙ elim (cases_lt (length (front p (drop at xs))) (length (drop at xs))) [
-        | inl h ↦ lt-leb (length (drop at xs)) (length (front p (drop at xs))) h ∙ sym (lt-leb (length xs) (at + length (front p (drop at xs))) (omega (arith, length-drop at xs)))
-        | inr h ↦ le-leb (length (drop at xs)) (length (front p (drop at xs))) h ∙ sym (le-leb (length xs) (at + length (front p (drop at xs))) (omega (arith, length-drop at xs)))
-      ]
-
-  -- a step of the loop along a run
-  pub run_more : (xs : List A) (at : ℕ) (d : A) → at < length xs → p (get_or xs at d) ≡ true → at + length (front p (drop at xs)) ≡ (at + 1) + length (front p (drop (at + 1) xs))
-  run_more xs at d h e =
-      let q : length (front p (drop at xs)) ≡ suc (length (front p (drop (at + 1) xs))) =
-      ap length (at_drop_more (front p) xs at d h ∙ cond-true (p (get_or xs at d)) (get_or xs at d ∷ front p (drop (at + 1) xs)) [] e) in
-      omega arith
-
-  pub run_over : (xs : List A) (at : ℕ) (d : A) → at < length xs → p (get_or xs at d) ≡ false → at + length (front p (drop at xs)) ≡ at
-  run_over xs at d h e =
-      let q : length (front p (drop at xs)) ≡ 0 =
-      ap length (at_drop_more (front p) xs at d h ∙ cond-false (p (get_or xs at d)) (get_or xs at d ∷ front p (drop (at + 1) xs)) [] e) in
-      omega arith
-
-  pub run_end : (xs : List A) (at : ℕ) → length xs ≤ at → at + length (front p (drop at xs)) ≡ at
-  run_end xs at h = let q : length (front p (drop at xs)) ≡ 0 = ap length (at_drop_all (front p) xs at h) in omega arith
+  -- that all pass, as `all` tells it
+  pub every-is : (xs : List A) → list_all p xs ≡ every p xs
+  every-is [] = refl
+  every-is (x ∷ xs) = ap (λ b. p x && b) (every-is xs)

@@ -6,6 +6,7 @@ ghost use Rattle.words.specs.Runs.{is_of, front};
 
 use lists::part;
 
+// An enum, and no closure: so the contracts are equations with a definition by the class, where a closure's would speak of its calls.
 #[derive(Clone, Copy, PartialEq, Eq)]
 pub enum Class {
     // A space.
@@ -22,16 +23,18 @@ pub enum Class {
     Nonzero,
 }
 
-fn belongs(b: u8, class: Class) -> bool
-    ensures { result ≡ is_of class b }
-{
-    match class {
-        Class::Space => b == b' ',
-        Class::InLine => b != b'\n',
-        Class::InKey => b != b' ' && b != b'=',
-        Class::Digit => b >= b'0' && b <= b'9',
-        Class::Shown => b >= 32,
-        Class::Nonzero => b != 0,
+impl Class {
+    fn has(self, b: u8) -> bool
+        ensures { result ≡ is_of self b }
+    {
+        match self {
+            Class::Space => b == b' ',
+            Class::InLine => b != b'\n',
+            Class::InKey => b != b' ' && b != b'=',
+            Class::Digit => b.is_ascii_digit(),
+            Class::Shown => b >= 32,
+            Class::Nonzero => b != 0,
+        }
     }
 }
 
@@ -40,29 +43,19 @@ pub fn span_end(bytes: &[u8], at: usize, class: Class) -> usize
     ensures end { result ≡ at + length (front (is_of class) (drop at bytes.now)) }
     ensures within { at ≤ length bytes.now → result ≤ length bytes.now }
 {
-    let mut past = at;
-    while past < bytes.len() && belongs(bytes[past], class) {
-        past += 1;
-    }
-    past
+    at + bytes.iter().skip(at).take_while(|b| class.has(**b)).count()
 }
 
 // Whether all bytes from `at` on are of a class.
 pub fn all_of(bytes: &[u8], at: usize, class: Class) -> bool
     ensures { result ≡ every (is_of class) (drop at bytes.now) }
 {
-    span_end(bytes, at, class) >= bytes.len()
-}
-
-pub fn same_bytes(a: &[u8], b: &[u8]) -> bool
-    ensures { result ≡ bytes_eq a.now b.now }
-{
-    a == b
+    bytes.iter().skip(at).all(|b| class.has(*b))
 }
 
 // Whether the bytes from `at` on begin with these.
 pub fn begins(bytes: &[u8], at: usize, with: &[u8]) -> bool
     ensures { result ≡ bytes_eq (take (length with.now) (drop at bytes.now)) with.now }
 {
-    same_bytes(part(bytes, at, with.len()), with)
+    part(bytes, at, with.len()) == with
 }

@@ -11,7 +11,7 @@ mod text_lines;
 mod token;
 mod tokens;
 
-pub use class::{Class, all_of, begins, same_bytes, span_end};
+pub use class::{Class, all_of, begins, span_end};
 pub use line::Line;
 pub use path::Path;
 pub use spelling::{Word, word_at};

@@ -1,69 +1,81 @@
-// Names as keys, plain or spelled as a word.
-ghost use Rattle.std.specs.Prelude.{◌≡◌, ℕ, List};
-ghost use Rattle.lists.specs.Words.{lex_le};
-ghost use Rattle.lists.specs.Orders.{lex_order};
-ghost use Rattle.words.specs.Paths.{path_name, Next};
+// The bytes of a name, plain or spelled as a word, and names compared by their bytes.
+ghost use Rattle.std.specs.Prelude.{◌≡◌, refl};
+ghost use Rattle.std.specs.Str.{bytes_eq};
+ghost use Rattle.std.specs.Ordering.{nat_cmp, on, as_partial_cmp};
+ghost use Rattle.std.specs.Cmp.{partial_equiv_from_equiv, on_equiv, on_total, on_po};
+ghost use Rattle.std.specs.Cmp.Lexicographic.{slice_cmp, nat_list_eq_equiv, nat_list_cmp_total, texts_po, texts_ties};
+ghost use Rattle.std.specs.Iterator.{YieldsFirst, item_count};
+ghost use Rattle.words.specs.Paths.{path_name, Splits};
 
 use super::path::Path;
-use lists::Key;
+use std::cmp::Ordering;
 
-impl Path<'_> {
-    // The byte of the name that stands at an offset of its spelling, and the offset of the next.
-    fn next(self, at: usize) -> Option<(u8, usize)>
-        ensures { Next self.entry at result }
+impl<'a> Path<'a> {
+    // The first byte of the name, and the others, as they are spelled.
+    fn split_first(self) -> Option<(u8, Path<'a>)>
+        ensures { Splits self.entry result }
     {
         match self {
-            Path::Plain(bytes) => {
-                if at < bytes.len() {
-                    Some((bytes[at], at + 1))
-                } else {
-                    None
-                }
-            }
-            Path::Spelled(word) => {
-                if at >= word.len() {
-                    return None;
-                }
-                if word[at] != b'$' {
-                    return Some((word[at], at + 1));
-                }
-                if word.len() - at == 1 {
-                    None
-                } else {
-                    Some((word[at + 1], at + 2))
-                }
-            }
+            Path::Plain([byte, rest @ ..]) => Some((*byte, Path::Plain(rest))),
+            Path::Spelled([b'$', byte, rest @ ..]) => Some((*byte, Path::Spelled(rest))),
+            Path::Plain([]) | Path::Spelled([] | [b'$']) => None,
+            Path::Spelled([byte, rest @ ..]) => Some((*byte, Path::Spelled(rest))),
         }
     }
 }
 
-impl Key for Path<'_> {
-    ghost Model = { List ℕ };
+// The bytes of a name, one by one.
+#[derive(Drop)]
+struct Bytes<'a>(Path<'a>);
 
-    ghost model = { path_name };
+impl Iterator for Bytes<'_> {
+    type Item = u8;
 
-    ghost le = { lex_le };
+    ghost next_gives = { YieldsFirst (λ s. path_name s.0) };
 
-    ghost order = { lex_order };
+    ghost remaining = { item_count (λ s. path_name s.0) };
 
-    fn at_most(self, other: Path<'_>) -> bool {
-        let mut i = 0;
-        let mut j = 0;
-        'names: loop {
-            let Some((a, past_a)) = self.next(i) else {
-                return true;
-            };
-            let Some((b, past_b)) = other.next(j) else {
-                return false;
-            };
-            if a < b {
-                return true;
-            }
-            if b < a {
-                return false;
-            }
-            i = past_a;
-            j = past_b;
-        }
+    fn next(&mut self) -> Option<u8> {
+        let (byte, rest) = self.0.split_first()?;
+        self.0 = rest;
+        Some(byte)
+    }
+}
+
+impl PartialEq for Path<'_> {
+    ghost eq = { on path_name bytes_eq };
+
+    ghost laws = { partial_equiv_from_equiv (on_equiv path_name nat_list_eq_equiv) };
+
+    fn eq(&self, other: &Self) -> bool {
+        self.cmp(other).is_eq()
+    }
+}
+
+impl Eq for Path<'_> {
+    ghost laws = { on_equiv path_name nat_list_eq_equiv };
+}
+
+impl PartialOrd for Path<'_> {
+    ghost partial_cmp = { as_partial_cmp (on path_name (slice_cmp nat_cmp)) };
+
+    ghost laws = { on_po path_name texts_po };
+
+    fn partial_cmp(&self, other: &Self) -> Option<Ordering> {
+        Some(self.cmp(other))
+    }
+}
+
+impl Ord for Path<'_> {
+    ghost cmp = { on path_name (slice_cmp nat_cmp) };
+
+    ghost total = { on_total path_name nat_list_cmp_total };
+
+    ghost matches_partial_cmp = { λ x y. refl };
+
+    ghost matches_eq = { λ x y. texts_ties (path_name x) (path_name y) };
+
+    fn cmp(&self, other: &Self) -> Ordering {
+        Bytes(*self).cmp(Bytes(*other))
     }
 }

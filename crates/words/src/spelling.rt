@@ -4,6 +4,7 @@ ghost use Rattle.std.specs.Option.{option_map};
 ghost use Rattle.words.specs.Spelling.{ends, escapes, word, measured, EscapesBack};
 ghost use Rattle.words.specs.Steps.{stepped, Leads, word_of};
 
+use lists::part;
 use terms::Place;
 
 // Where a word stands, and the length of the name that it spells.
@@ -13,56 +14,30 @@ pub struct Word {
     pub length: usize,
 }
 
-// What the next bytes are to a word.
-#[derive(Clone, Copy)]
-pub(super) enum Step {
-    // The word ends before them.
-    End,
-    // A `$` before a byte that takes none.
-    Wrong,
-    // They spell one byte, and the next ones stand here.
-    On(usize),
-}
-
 fn ends_word(b: u8) -> bool
     ensures { result ≡ ends b }
 {
-    match char::from(b) {
-        ' ' | ':' | '|' => true,
-        _ => false,
-    }
+    matches!(b, b' ' | b':' | b'|')
 }
 
 // Whether a `$` stands before this byte in a word.
 fn takes_sign(b: u8) -> bool
     ensures { result ≡ escapes b }
 {
-    match char::from(b) {
-        ' ' | ':' | '$' => true,
-        _ => false,
-    }
+    matches!(b, b' ' | b':' | b'$')
 }
 
-fn step_at(bytes: &[u8], at: usize) -> Step
-    ensures step { (n : ℕ) → measured at n (word (drop at bytes.now)) ≡ stepped bytes.now at n result }
-    ensures leads { Leads bytes.now at result }
+// What follows one byte of the name as the next bytes spell it, or nothing where the word ends before them; none where a `$` stands before a byte that takes none.
+fn step(rest: &[u8]) -> Option<Option<&[u8]>>
+    ensures step { (at n : ℕ) → measured at n (word rest.now) ≡ stepped rest.now at n result }
+    ensures leads { Leads rest.now result }
 {
-    if at >= bytes.len() {
-        return Step::End;
-    }
-    if ends_word(bytes[at]) {
-        return Step::End;
-    }
-    if bytes[at] != b'$' {
-        return Step::On(at + 1);
-    }
-    if bytes.len() - at == 1 {
-        return Step::Wrong;
-    }
-    if takes_sign(bytes[at + 1]) {
-        Step::On(at + 2)
-    } else {
-        Step::Wrong
+    match rest {
+        [] => Some(None),
+        [b, ..] if ends_word(*b) => Some(None),
+        [b'$', b, behind @ ..] if takes_sign(*b) => Some(Some(behind)),
+        [b'$', ..] => None,
+        [_, behind @ ..] => Some(Some(behind)),
     }
 }
 
@@ -71,21 +46,17 @@ pub fn word_at(bytes: &[u8], start: usize) -> Option<Word>
     ensures word { result ≡ option_map (word_of start) (word (drop start bytes.now)) }
     ensures back { EscapesBack }
 {
-    let mut at = start;
+    let front = part(bytes, start, bytes.len());
+    let mut rest = front;
     let mut length = 0;
-    'spelling: loop {
-        match step_at(bytes, at) {
-            Step::End => break 'spelling,
-            Step::Wrong => return None,
-            Step::On(next) => {
-                at = next;
-                length += 1;
-            }
-        }
+    // A loop, and no iterator over the steps: a wrong sign is no end of them, but ends the call.
+    while let Some(behind) = step(rest)? {
+        rest = behind;
+        length += 1;
     }
     let place = Place {
         start,
-        length: at - start,
+        length: front.len() - rest.len(),
     };
     Some(Word { place, length })
 }

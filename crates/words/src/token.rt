@@ -1,6 +1,7 @@
 // What stands in a line of words.
 use super::spelling::Word;
 
+// The end and what is not understood are tokens, and no None or Err: each reader of a line has a case for them beside the marks.
 #[derive(Clone, Copy, PartialEq, Eq, Debug)]
 pub enum Token {
     Colon,

@@ -1,26 +1,23 @@
 // The tokens of a line, one by one.
-ghost use Rattle.std.specs.Prelude.{◌≡◌, ◌+◌, ◌<◌, length, drop};
-ghost use Rattle.words.specs.Tokens.{bar_begun, front_token};
-ghost use Rattle.words.specs.Shown.{shown, Counted};
+ghost use Rattle.std.specs.Prelude.{◌≡◌, ◌+◌, drop};
+ghost use Rattle.words.specs.Tokens.{front_token};
+ghost use Rattle.words.specs.Shown.{shown, Counted, Marks};
 
 use super::class::{Class, span_end};
 use super::spelling::word_at;
 use super::token::Token;
+use lists::part;
 
-// One bar or two.
-fn bar_at(bytes: &[u8], start: usize) -> (Token, usize)
-    requires { start < length bytes.now }
-    ensures token { shown bytes.now result.0 ≡ (bar_begun (drop (start + 1) bytes.now)).0 }
-    ensures next { result.1 ≡ start + 1 + (bar_begun (drop (start + 1) bytes.now)).1 }
-    ensures mark { Counted bytes.now start result.0 result.1 }
+// The mark that bytes begin with, or that there are none, and how long it is; none where something else begins.
+fn mark(rest: &[u8]) -> Option<(Token, usize)>
+    ensures { Marks rest.now result }
 {
-    if bytes.len() - start == 1 {
-        return (Token::Bar, start + 1);
-    }
-    if bytes[start + 1] == b'|' {
-        (Token::Bars, start + 2)
-    } else {
-        (Token::Bar, start + 1)
+    match rest {
+        [] => Some((Token::End, 0)),
+        [b':', ..] => Some((Token::Colon, 1)),
+        [b'|', b'|', ..] => Some((Token::Bars, 2)),
+        [b'|', ..] => Some((Token::Bar, 1)),
+        _ => None,
     }
 }
 
@@ -31,14 +28,8 @@ pub fn next_token(bytes: &[u8], at: usize) -> (Token, usize)
     ensures counted { Counted bytes.now at result.0 result.1 }
 {
     let start = span_end(bytes, at, Class::Space);
-    if start >= bytes.len() {
-        return (Token::End, start);
-    }
-    if bytes[start] == b':' {
-        return (Token::Colon, start + 1);
-    }
-    if bytes[start] == b'|' {
-        return bar_at(bytes, start);
+    if let Some((token, length)) = mark(part(bytes, start, bytes.len())) {
+        return (token, start + length);
     }
     match word_at(bytes, start) {
         Some(word) => (Token::Word(word), start + word.place.length),

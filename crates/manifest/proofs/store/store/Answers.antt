@@ -26,10 +26,13 @@ words-preserved c =
     let f = subst (λ (xs : List ℕ). tokens (drop here xs) ≡ named (name_at xs w.place) ∷ tokens (drop t.1 xs)) c.front-bytes.ensures (word_first c.front-bytes.result.now here t.1 t.0 w e.token e.next c.in-Word.is) in
     let k = subst (λ (xs : List ℕ). Counted xs here (token.Word w) t.1) c.front-bytes.ensures (subst (λ (u : Token). Counted c.front-bytes.result.now here u t.1) c.in-Word.is e.counted) in
     let s = subst (λ (ns : List (List ℕ)). Storing text old (items c.words.words) ns all) (ap names_of f) c.words.invariant.0 in (
-      storing_more text old (items c.words.words) _ w.place (name_at W w.place) (names_of (tokens (drop t.1 W))) all c.push.result (room c.words.words)
-          (sym (name-within text c.args.line.end w.place (omega (arith, k.1, k.3)))) c.push.ensures.full c.push.ensures.items (omega (arith, c.requires, c.words.invariant.1)) s,
+      storing_more text old (items c.words.words) _ w.place (name_at W w.place) (names_of (tokens (drop t.1 W))) all (room c.words.words)
+          (sym (name-within text c.args.line.end w.place (omega (arith, k.1, k.3)))) c.push.ensures.items (omega (arith, c.requires, c.words.invariant.1)) s,
       c.push.ensures.room ∙ c.words.invariant.1,
     )
+
+pub unwrap-requires : goal.unwrap-requires
+unwrap-requires c = ?
 
 pub returns-in_default : goal.returns-in_default
 returns-in_default c =

@@ -1,17 +1,16 @@
-use Rattle.std.proofs.Common.{sym, ◌∙◌, arith}
+use Rattle.std.proofs.Common.{ℕ, ◌+◌, drop, sym, ap, ◌∙◌, rules, tests}
+use Rattle.std.proofs.lemmas.List.Folds.{length-prefix_len}
+use Rattle.std.proofs.lemmas.Iterator.{YieldsList-from_slice}
+use Rattle.std.proofs.lemmas.Iterator.Adapters.{YieldsList-from_skip}
+use Rattle.std.proofs.lemmas.Iterator.Consumers.{count_from_yields_List}
+use Rattle.std.proofs.lemmas.Iterator.Search.{YieldsList-from_take_while}
 use Rattle.words.specs.Runs.{is_of}
-use Rattle.words.proofs.Spans.{run_more, run_over, run_end}
+use Rattle.words.proofs.Spans.{length-front}
 use Rattle.words.proofs.class.span_end.Goals as goal
 
-pub loop-past-preserved : goal.loop-past-preserved
-loop-past-preserved c =
-    (sym (run_more (is_of c.args.class) c.args.bytes.now c.loop-past.past 0 c.loop-past-test.true (sym c.belongs.ensures ∙ c.if-belongs.true)) ∙ c.loop-past.invariant.0, λ h. omega arith)
-
-pub returns-else-belongs : goal.returns-else-belongs
-returns-else-belongs c = record {
-  end = sym (run_over (is_of c.args.class) c.args.bytes.now c.loop-past.past 0 c.loop-past-test.true (sym c.belongs.ensures ∙ c.if-belongs.false)) ∙ c.loop-past.invariant.0;
-  within = c.loop-past.invariant.1;
-}
-
-pub returns-after-loop-past : goal.returns-after-loop-past
-returns-after-loop-past c = record { end = sym (run_end (is_of c.args.class) c.args.bytes.now c.loop-past.past c.loop-past-test.false) ∙ c.loop-past.invariant.0; within = c.loop-past.invariant.1 }
+pub returns-clause-end : goal.returns-clause-end
+returns-clause-end c =
+    let p = is_of c.args.class in
+    let rest = drop c.args.at c.args.bytes.now in
+    let k = count_from_yields_List c.take_while.result c.count.result c.count.ensures.ran (YieldsList-from_take_while _ p (YieldsList-from_skip c.args.at (YieldsList-from_slice c.args.bytes.now cc) cc) c.take_while.ensures.closure c.take_while.ensures.done (λ x b q k. search (rules, tests))) in
+    ap (λ (n : ℕ). c.args.at + n) (k ∙ length-prefix_len p rest ∙ sym (length-front p rest))

@@ -17,7 +17,7 @@ use Rattle.manifest.specs.Kept.{book_of}
 use Rattle.manifest.specs.Sound.{Within}
 use Rattle.manifest.specs.Views.{declaration, making}
 use Rattle.manifest.proofs.Added.{Added, longer, added, makings_same, within_more, within_limits}
-use Rattle.manifest.proofs.Declares.{pushed}
+use Rattle.lists.proofs.Pushed.{pushed}
 use Rattle.manifest.proofs.reader.Reader.add_statement.Goals as goal
 use Rattle.manifest.proofs.reader.Reader.add_statement.Goals.{After-push, After-made_twice}
 
@@ -74,7 +74,7 @@ stands : (c : After-push) → items c.push.new.self ≡ items c.args.self.now.st
 stands c =
     let ss = items c.args.self.now.statements in
     let h : length ss < room c.args.self.now.statements = omega (arith, c.requires.few, c.args.self.now.sound.for_statements) in
-    pushed ss _ _ c.push.result (room c.args.self.now.statements) h c.push.ensures.full c.push.ensures.items
+    pushed ss _ _ (room c.args.self.now.statements) h c.push.ensures.items
 
 -- whether an output is made twice
 judged : (c : After-made_twice) → AddedWords c.args.line (items c.args.self.now.words) (items c.store-4.new.words) c.args.built.now →

@@ -8,7 +8,8 @@ use Rattle.manifest.specs.declared.rule.Rule.{Rule}
 use Rattle.manifest.specs.Books.{Declaration, Reading, rule_number}
 use Rattle.manifest.specs.Kept.{book_of}
 use Rattle.manifest.specs.Views.{declaration, making}
-use Rattle.manifest.proofs.Declares.{none_from, pushed, declared_many, declared-long, declared-new}
+use Rattle.lists.proofs.Pushed.{pushed}
+use Rattle.manifest.proofs.Declares.{none_from, declared_many, declared-long, declared-new}
 use Rattle.manifest.proofs.reader.Reader.declare.Goals as goal
 use Rattle.manifest.proofs.reader.Reader.declare.Goals.{Else-is_some}
 
@@ -41,7 +42,7 @@ returns c =
     let D = declaration text in
     let r : Rule = record { name = c.args.word.place; keeps = false } in
     let h : length (items self.rules) < room self.rules = omega (arith, c.if-len-ge-RULES.false, c.len.ensures.count, self.sound.for_rules) in
-    let e = pushed (items self.rules) _ r c.push.result (room self.rules) h c.push.ensures.full c.push.ensures.items in
+    let e = pushed (items self.rules) _ r (room self.rules) h c.push.ensures.items in
     let F : List Declaration → Result Reading Fault = λ rs. Ok (record { book = record { rules = rs; statements = map (making text (items self.words)) (items self.statements) }; owner = Some LastRule }) in
     ap F (ap (map D) e ∙ map_push D (items self.rules) r) ∙
     declared-new (book_of text self) (name_at text c.args.word.place) _ (new (goal.at.returns c).Else-is_some)

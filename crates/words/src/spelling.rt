@@ -8,7 +8,7 @@ use lists::part;
 use terms::Place;
 
 // Where a word stands, and the length of the name that it spells.
-#[derive(Clone, Copy, PartialEq, Eq, Debug)]
+#[derive(Clone, Copy, PartialEq, Eq)]
 pub struct Word {
     pub place: Place,
     pub length: usize,

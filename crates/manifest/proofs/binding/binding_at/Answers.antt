@@ -24,8 +24,8 @@ one_fails a b e = e ∙ sym (and_left a b e)
 said : (c : After-eq-gcc) → (c.eq-deps.result && c.eq-gcc.result) ≡ binds_deps (drop c.args.at c.args.bytes.now)
 said c =
     let xs = c.args.bytes.now in
-    let k = c.eq-deps.ensures ∙ ap (λ ys. bytes_eq ys (codes "deps")) (c.part.ensures ∙ key_taken xs c.args.at _ _ _ c.span_end-key.ensures.end c.span_end-past.ensures.end c.span_end-equals.ensures.end) in
-    let v = c.eq-gcc.ensures ∙ ap (λ ys. bytes_eq ys (codes "gcc")) (c.part-2.ensures ∙ value_taken xs c.args.at _ _ _ c.span_end-key.ensures.end c.span_end-past.ensures.end c.span_end-equals.ensures.end _ c.span_end-value.ensures.end) in
+    let k = c.eq-deps.ensures ∙ ap (bytes_eq c.part.result.now) c.as_slice.ensures ∙ ap (λ ys. bytes_eq ys (codes "deps")) (c.part.ensures ∙ key_taken xs c.args.at _ _ _ c.span_end-key.ensures.end c.span_end-past.ensures.end c.span_end-equals.ensures.end) in
+    let v = c.eq-gcc.ensures ∙ ap (bytes_eq c.part-2.result.now) c.as_slice-2.ensures ∙ ap (λ ys. bytes_eq ys (codes "gcc")) (c.part-2.ensures ∙ value_taken xs c.args.at _ _ _ c.span_end-key.ensures.end c.span_end-past.ensures.end c.span_end-equals.ensures.end _ c.span_end-value.ensures.end) in
     ap (λ (d : Bool). d && c.eq-gcc.result) k ∙ ap (λ (g : Bool). bytes_eq (key_of (drop c.args.at xs)) (codes "deps") && g) v
 
 binds : (c : After-eq-gcc) → Some (binds_deps (drop c.args.at c.args.bytes.now)) ≡ binding_of (drop c.args.at c.args.bytes.now)

@@ -1,5 +1,7 @@
-use Rattle.std.proofs.Common.{◌≡◌, ℕ, List, ◌∷◌, take, drop, sym, refl, ap, ◌∙◌, subst, arith}
+use Rattle.std.proofs.Common.{◌≡◌, ℕ, List, ◌∷◌, length, take, drop, sym, refl, ap, ◌∙◌, subst, arith}
+use Rattle.std.specs.Result.{IsOk}
 use Rattle.lists.specs.Grown.{items, room}
+use Rattle.lists.proofs.Pushed.{taken}
 use Rattle.words.specs.Shown.{Counted}
 use Rattle.words.specs.Spelling.{name_at}
 use Rattle.words.specs.Tokens.{tokens, named}
@@ -7,7 +9,7 @@ use Rattle.words.specs.declared.token.Token.{Token}
 use Rattle.words.specs.declared.token.Token.TheVariants as token
 use Rattle.manifest.specs.Building.{names_of}
 use Rattle.manifest.proofs.Marks.{token-is, word_first, is_mark, mark_names}
-use Rattle.manifest.proofs.Stores.{Storing, name-within, storing_first, storing_more, storing_last}
+use Rattle.manifest.proofs.Stores.{Storing, name-within, storing_long, storing_first, storing_more, storing_last}
 use Rattle.manifest.proofs.store.store.Goals as goal
 
 pub words-init : goal.words-init
@@ -32,7 +34,18 @@ words-preserved c =
     )
 
 pub unwrap-requires : goal.unwrap-requires
-unwrap-requires c = ?
+unwrap-requires c =
+    let text = c.args.line.text.now in
+    let W = take c.args.line.end text in
+    let here = c.words.here in
+    let t = c.next_token-token.result in
+    let e = c.next_token-token.ensures in
+    let old = items c.args.words.now in
+    let so = items c.words.words in
+    let all = names_of (tokens (drop c.args.at W)) in
+    let f = subst (λ (xs : List ℕ). tokens (drop here xs) ≡ named (name_at xs c.in-Word.word.place) ∷ tokens (drop t.1 xs)) c.front-bytes.ensures (word_first c.front-bytes.result.now here t.1 t.0 c.in-Word.word e.token e.next c.in-Word.is) in
+    let s = storing_long text old so _ all (subst (λ (ns : List (List ℕ)). Storing text old so ns all) (ap names_of f) c.words.invariant.0) in
+    subst IsOk (sym (taken _ _ (length so) (room c.words.words) (omega (arith, s, c.requires, c.words.invariant.1)) c.push.ensures.full)) tt
 
 pub returns-in_default : goal.returns-in_default
 returns-in_default c =

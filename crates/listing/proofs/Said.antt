@@ -1,9 +1,9 @@
 -- What a line of a listing says, part by part. Assumes nothing.
-use Rattle.std.proofs.Common.{◌≡◌, ℕ, ◌+◌, ◌-◌, ◌<◌, ◌≤◌, Bool, true, false, cond, not, ltb, leb, List, ◌∷◌, length, take, drop, Some, None, Ok, Err, codes, Option, Result, sym, refl, ap, ◌∙◌, arith}
+use Rattle.std.proofs.Common.{◌≡◌, ℕ, ◌+◌, ◌-◌, ◌<◌, ◌≤◌, Bool, true, false, cond, not, leb, List, ◌∷◌, length, take, drop, Some, None, Ok, Err, codes, Option, Result, sym, refl, ap, ◌∙◌, arith}
 use Rattle.std.specs.Str.{bytes_eq}
 use Rattle.std.proofs.lemmas.Slice.Eq.{bytes_eq-Decides}
 use Rattle.std.proofs.lemmas.List.{drop-take, drop-drop, take-take, take_all, length-take, length-drop}
-use Rattle.std.proofs.lemmas.Bool.{cond-true, cond-false, and_from, and_left, and_right, not_from_false, not_from_true, lt-ltb, le-leb, lt-leb}
+use Rattle.std.proofs.lemmas.Bool.{cond-true, cond-false, and_from, and_left, and_right, not_from_false, not_from_true, le-leb, lt-leb}
 use Rattle.terms.specs.declared.At.{At}
 use Rattle.terms.specs.Lists.{◌▷◌}
 use Rattle.terms.specs.Names.{is_name}
@@ -116,9 +116,6 @@ module _ (rows : List Listed) (o : Option Listed) (r : Listed) (e : Some r ≡ o
 
   pub row_new : is_listed rows r.name ≡ false → length rows < 512 → Ok (rows ▷ r) ≡ row_added rows o
   row_new f h = sym (ap (row_added rows) (sym e) ∙ cond-false (is_listed rows r.name) _ _ f ∙ cond-false (leb 512 (length rows)) _ _ (lt-leb 512 (length rows) h))
-
-pub pushed : {T : Type 0} (old new : List T) (x : T) (r : Bool) (room : ℕ) → length old < room → r ≡ ltb (length old) room → new ≡ cond r (old ▷ x) old → new ≡ old ▷ x
-pushed old new x r room h e f = f ∙ cond-true r (old ▷ x) old (e ∙ lt-ltb (length old) room h)
 
 -- All lines ---------------------------------------------------------------------------------------------------------------
 

@@ -1,7 +1,6 @@
 -- Rules that are declared, and statements that are added. Assumes nothing.
-use Rattle.std.proofs.Common.{◌≡◌, ℕ, ◌<◌, ◌≤◌, Bool, true, false, cond, ◌||◌, ltb, leb, List, length, is_some, Some, None, Ok, Err, Option, Result, sym, refl, ap, ◌∙◌}
+use Rattle.std.proofs.Common.{◌≡◌, ℕ, ◌<◌, ◌≤◌, true, false, cond, ◌||◌, leb, List, length, is_some, Some, None, Ok, Err, Option, Result, sym, refl, ap, ◌∙◌}
 use Rattle.std.proofs.lemmas.Bool.{cond-true, cond-false, lt-ltb, le-leb, lt-leb, le-ltb, or_left, or_right, or_from, both_ways}
-use Rattle.terms.specs.Lists.{◌▷◌}
 use Rattle.manifest.specs.declared.fault.Fault.{Fault}
 use Rattle.manifest.specs.declared.fault.Fault.TheVariants.{RuleDeclared, PastLimit}
 use Rattle.manifest.specs.Building.{Build}

@@ -77,10 +77,10 @@ impl Reader<'_, '_, '_> {
         }
         self.rules
             .push(Rule {
-            name: word.place,
-            keeps: false,
-        })
-        .unwrap();
+                name: word.place,
+                keeps: false,
+            })
+            .unwrap();
         self.owner = Some(Owner::LastRule);
         Ok(())
     }
@@ -105,16 +105,17 @@ impl Reader<'_, '_, '_> {
         store(&mut self.words, line, built.inputs.plain.at);
         store(&mut self.words, line, built.inputs.implicit.at);
         store(&mut self.words, line, built.inputs.order.at);
-        self.statements.push(Statement {
-            line: line.number,
-            rule,
-            first,
-            outputs: built.outputs.count,
-            plain: built.inputs.plain.count,
-            implicit: built.inputs.implicit.count,
-            order: built.inputs.order.count,
-        })
-        .unwrap();
+        self.statements
+            .push(Statement {
+                line: line.number,
+                rule,
+                first,
+                outputs: built.outputs.count,
+                plain: built.inputs.plain.count,
+                implicit: built.inputs.implicit.count,
+                order: built.inputs.order.count,
+            })
+            .unwrap();
         self.owner = Some(Owner::LastStatement);
         let words = self.words.as_slice();
         let others = part(self.statements.as_slice(), 0, before);
@@ -132,8 +133,7 @@ impl Reader<'_, '_, '_> {
     {
         let bytes = line.front();
         let name = Path::Spelled(built.rule.place.of(bytes));
-        let rule =
-            rule_number(line.text, self.rules.as_slice(), name).ok_or(Fault::RuleDeclared)?;
+        let rule = rule_number(line.text, self.rules.as_slice(), name).ok_or(Fault::RuleDeclared)?;
         if self.statements.len() >= STATEMENTS {
             return Err(Fault::PastLimit);
         }

@@ -1,4 +1,4 @@
-use Rattle.std.proofs.Common.{◌≡◌, ℕ, ◌<◌, Bool, List, map, length, is_some, Some, Ok, Result, sym, refl, ap, ◌∙◌, arith}
+use Rattle.std.proofs.Common.{◌≡◌, ℕ, ◌<◌, Bool, List, map, length, is_some, Some, Ok, Result, sym, refl, ap, rules, ◌∙◌, arith}
 use Rattle.std.specs.Option.{option_map}
 use Rattle.std.specs.Str.{bytes_eq}
 use Rattle.std.proofs.lemmas.List.{length-map, map_push}
@@ -7,12 +7,13 @@ use Rattle.lists.specs.Grown.{items, room}
 use Rattle.terms.specs.Places.{at_place}
 use Rattle.words.specs.Line.{line_bytes}
 use Rattle.words.proofs.Oks.{given}
+use Rattle.lists.proofs.Pushed.{pushed}
 use Rattle.lists.proofs.Finds.{place-some, some-map}
 use Rattle.listing.specs.declared.fault.ListingFault.{ListingFault}
 use Rattle.listing.specs.declared.row.Row.{Row}
 use Rattle.listing.specs.Rows.{Listed, is_listed, row_of}
 use Rattle.listing.specs.Shown.{listed}
-use Rattle.listing.proofs.Said.{listed-before, rows_many, row_new, pushed}
+use Rattle.listing.proofs.Said.{listed-before, rows_many, row_new}
 use Rattle.listing.proofs.read.add_row.Goals as goal
 use Rattle.listing.proofs.read.add_row.Goals.{In_ok-row, After-is_some}
 
@@ -27,9 +28,9 @@ known c =
     let P : List ℕ → Row → Bool = λ n x. bytes_eq n (at_place text x.name) in
     some-map (listed text) (λ r. bytes_eq (at_place text c.in_ok-row.row.name) r.name) (items c.args.rows.now) ∙
     sym (place-some 0 (P (at_place text c.in_ok-row.row.name)) (items c.args.rows.now)) ∙
-    ap (λ (n : List ℕ). is_some (place_from 0 (P n) (items c.args.rows.now))) (sym c.of.ensures) ∙
-    ap (λ (xs : List Row). is_some (place_from 0 (P c.of.result.now) xs)) (sym c.as_slice.ensures) ∙
-    ap is_some (sym c.first.ensures.place) ∙ sym c.is_some.ensures
+    ap (λ (n : List ℕ). is_some (place_from 0 (P n) (items c.args.rows.now))) (sym c.of-name.ensures) ∙
+    ap (λ (xs : List Row). is_some (place_from 0 (P c.of-name.result.now) xs)) (sym c.as_slice.ensures) ∙
+    ap is_some (sym (c.first.ensures.place (P c.of-name.result.now) (λ x k h. search rules))) ∙ sym c.is_some.ensures
 
 pub returns-then-is_some : goal.returns-then-is_some
 returns-then-is_some c = record { room = refl; said = listed-before _ _ (listed c.args.line.text.now c.in_ok-row.row) (read (goal.at.returns-then-is_some c).In_ok-row) (known (goal.at.returns-then-is_some c).After-is_some ∙ c.if-is_some.true) }
@@ -47,7 +48,7 @@ returns c =
     let xs = items c.args.rows.now in
     let r = c.in_ok-row.row in
     let h : length xs < room c.args.rows.now = omega (arith, c.if-len-ge-ROWS.false, c.len.ensures.count, c.requires) in
-    let e = pushed xs _ r c.push.result (room c.args.rows.now) h c.push.ensures.full c.push.ensures.items in
+    let e = pushed xs _ r (room c.args.rows.now) h c.push.ensures.items in
     let F : List Listed → Result (List Listed) ListingFault = λ rs. Ok rs in
     record {
       room = c.push.ensures.room;

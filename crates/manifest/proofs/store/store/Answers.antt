@@ -45,7 +45,7 @@ unwrap-requires c =
     let all = names_of (tokens (drop c.args.at W)) in
     let f = subst (λ (xs : List ℕ). tokens (drop here xs) ≡ named (name_at xs c.in-Word.word.place) ∷ tokens (drop t.1 xs)) c.front-bytes.ensures (word_first c.front-bytes.result.now here t.1 t.0 c.in-Word.word e.token e.next c.in-Word.is) in
     let s = storing_long text old so _ all (subst (λ (ns : List (List ℕ)). Storing text old so ns all) (ap names_of f) c.words.invariant.0) in
-    subst IsOk (sym (taken _ _ (length so) (room c.words.words) (omega (arith, s, c.requires, c.words.invariant.1)) c.push.ensures.full)) tt
+    subst IsOk (sym (taken _ _ (length so) (room c.words.words) (omega (arith, s, c.requires, c.words.invariant.1)) c.push.ensures.full)) refl
 
 pub returns-in_default : goal.returns-in_default
 returns-in_default c =

@@ -90,7 +90,7 @@ judged c a s =
     let m = makings_same text (items self.words) new a.behind ss a.extends self.sound.within in
     let o = a.outputs_are c.len-first.result g.count c.len-first.ensures.count c.requires.sums.0.count in
     let others : c.part-others.result.now ≡ ss =
-        c.part-others.ensures ∙ ap (take c.len-before.result) (c.as_slice.ensures ∙ s) ∙ take_at ss (statement c.args.line c.args.rule c.len-first.result c.args.built.now ∷ []) c.len-before.result (sym c.len-before.ensures.count) in
+    c.part-others.ensures ∙ ap (take c.len-before.result) (c.as_slice.ensures ∙ s) ∙ take_at ss (statement c.args.line c.args.rule c.len-first.result c.args.built.now ∷ []) c.len-before.result (sym c.len-before.ensures.count) in
     ap (λ (ms : List Making). twice ms (group_names W g)) (sym m) ∙ ap (twice (map (making text new) ss)) (sym o) ∙
     ap (λ (ps : List Place). twice (map (making text ps) ss) (map (name_at text) (take g.count (drop c.len-first.result ps)))) (sym c.as_slice-words.ensures) ∙
     ap (λ (ps : List Place). twice (map (making text c.as_slice-words.result.now) ss) (map (name_at text) ps)) (sym c.part-outputs.ensures) ∙

@@ -29,9 +29,6 @@ module _ (l : List ℕ) where
   none : is_row l ≡ false → None ≡ row_of l
   none e = sym (cond-false (is_row l) (Some (record { name = name_of l; mtime = decimal 0 (digits_of l) })) None e)
 
-  pub zero-first : bytes_eq (take 1 l) (codes "0") ≡ true → None ≡ row_of l
-  zero-first e = none (and_left (not (bytes_eq (take 1 l) (codes "0"))) _ (not_from_true (bytes_eq (take 1 l) (codes "0")) e))
-
   pub no_value : leb 1 (decimal 0 (digits_of l)) ≡ false → None ≡ row_of l
   no_value e = none (and_right (not (bytes_eq (take 1 l) (codes "0"))) _ (and_left (leb 1 (decimal 0 (digits_of l))) _ e))
 
@@ -116,12 +113,3 @@ module _ (rows : List Listed) (o : Option Listed) (r : Listed) (e : Some r ≡ o
 
   pub row_new : is_listed rows r.name ≡ false → length rows < 512 → Ok (rows ▷ r) ≡ row_added rows o
   row_new f h = sym (ap (row_added rows) (sym e) ∙ cond-false (is_listed rows r.name) _ _ f ∙ cond-false (leb 512 (length rows)) _ _ (lt-leb 512 (length rows) h))
-
--- All lines ---------------------------------------------------------------------------------------------------------------
-
-module _ (line : ℕ) (l : List ℕ) (ls : List (List ℕ)) (rows : List Listed) where
-  pub row_read : (more : List Listed) → Ok more ≡ row_added rows (row_of l) → read_rows line (l ∷ ls) rows ≡ read_rows (line + 1) ls more
-  row_read more e = ap (λ (r : Result (List Listed) ListingFault). elim r as (λ _. Result (List Listed) (At ListingFault)) [ Ok m ↦ read_rows (line + 1) ls m | Err f ↦ Err (record { offset = line; value = f }) ]) (sym e)
-
-  pub row_fault : (f : ListingFault) → Err f ≡ row_added rows (row_of l) → read_rows line (l ∷ ls) rows ≡ Err (record { offset = line; value = f })
-  row_fault f e = ap (λ (r : Result (List Listed) ListingFault). elim r as (λ _. Result (List Listed) (At ListingFault)) [ Ok m ↦ read_rows (line + 1) ls m | Err g ↦ Err (record { offset = line; value = g }) ]) (sym e)

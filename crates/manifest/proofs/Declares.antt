@@ -2,7 +2,7 @@
 use Rattle.std.proofs.Common.{◌≡◌, ℕ, ◌<◌, ◌≤◌, true, false, cond, ◌||◌, leb, List, length, is_some, Some, None, Ok, Err, Option, Result, sym, refl, ap, ◌∙◌}
 use Rattle.std.proofs.lemmas.Bool.{cond-true, cond-false, lt-ltb, le-leb, lt-leb, le-ltb, or_left, or_right, or_from, both_ways}
 use Rattle.manifest.specs.declared.fault.Fault.{Fault}
-use Rattle.manifest.specs.declared.fault.Fault.TheVariants.{RuleDeclared, PastLimit}
+use Rattle.manifest.specs.declared.fault.Fault.TheVariants.{PastLimit}
 use Rattle.manifest.specs.Building.{Build}
 use Rattle.manifest.specs.Books.{Book, Reading, is_over, add_rule, declared_by, stated_by}
 use Rattle.manifest.specs.Groups.{is_long}
@@ -26,16 +26,10 @@ module _ (b : Book) (name : List ℕ) (o : Option ℕ) (e : o ≡ None) where
       (or_from (leb 64 (length b.rules)) (is_long name) (lt-leb 64 (length b.rules) h) (le-ltb 120 (length name) k)))
 
 module _ (line : ℕ) (b : Book) (s : Build) (o : Option ℕ) where
-  pub stated_none : o ≡ None → Err RuleDeclared ≡ stated_by line b s o
-  stated_none e = sym (ap (stated_by line b s) e)
-
   module _ (rule : ℕ) (e : o ≡ Some rule) where
     pub stated-many : 128 ≤ length b.statements → Err PastLimit ≡ stated_by line b s o
     stated-many h =
         sym (ap (stated_by line b s) e ∙ cond-true (leb 128 (length b.statements) || is_over s) _ _ (or_left (leb 128 (length b.statements)) (is_over s) (le-leb 128 (length b.statements) h)))
-
-    pub stated-over : is_over s ≡ true → Err PastLimit ≡ stated_by line b s o
-    stated-over h = sym (ap (stated_by line b s) e ∙ cond-true (leb 128 (length b.statements) || is_over s) _ _ (or_right (leb 128 (length b.statements)) (is_over s) h))
 
     pub stated-within : (x : Result Reading Fault) → length b.statements < 128 → is_over s ≡ false → stated_by line b s (Some rule) ≡ cond (leb 128 (length b.statements) || is_over s) (Err PastLimit) x → x ≡ stated_by line b s o
     stated-within x h k f =

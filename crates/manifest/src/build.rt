@@ -1,4 +1,4 @@
-// Reading the words of a build line and of a rule line.
+// Reading the words of a build line and of a rule line: of bytes from an offset on, and no slice from there on, since the places count from the bytes' start.
 ghost use Rattle.std.specs.Prelude.{◌≡◌, drop};
 ghost use Rattle.std.specs.Option.{option_map};
 ghost use Rattle.words.specs.Tokens.{tokens};

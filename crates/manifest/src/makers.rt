@@ -25,7 +25,7 @@ pub fn is_among(text: &[u8], words: &[Place], name: Path) -> bool
     first(words, |word| Path::Spelled(word.of(text)), &name).is_some()
 }
 
-// The number of the statement that makes a path.
+// The number of the statement that makes a path. Text, statements and words stand apart, and not in a Manifest, since the reader asks of lists that still grow.
 pub fn maker(text: &[u8], statements: &[Statement], words: &[Place], name: Path) -> Option<usize>
     ensures { result ≡ maker_of (map (making text.now words.now) statements.now) (path_name name.entry) }
 {

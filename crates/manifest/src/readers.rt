@@ -37,7 +37,9 @@ fn over_limit(bytes: &[u8], built: &Built) -> bool
     let plain = built.inputs.plain;
     let implicit = built.inputs.implicit;
     let order = built.inputs.order;
-    let inputs = plain.count.min(33) + implicit.count.min(33) + order.count.min(33);
+    let inputs = plain.count.min(INPUTS + 1)
+        + implicit.count.min(INPUTS + 1)
+        + order.count.min(INPUTS + 1);
     let long = built.outputs.long || plain.long || implicit.long || order.long;
     built.outputs.count > OUTPUTS || inputs > INPUTS || long
 }

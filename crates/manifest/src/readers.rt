@@ -94,7 +94,8 @@ impl Reader<'_, '_, '_> {
         self.declare(line.text, word)
     }
 
-    // Adds a statement whose line is within the limits. Where an output of it is made twice, no more is read.
+    // Adds a statement whose line is within the limits. It is pushed before its outputs are looked at, so that its words are never without it: where one is made
+    // twice, nothing more is read.
     fn add_statement(&mut self, line: Line, rule: usize, built: &Built) -> Result<(), Fault>
         requires few { length (items self.old.statements) < 128 }
         requires sums { BuildSums (take line.end line.text.now) (Some built.now) }

@@ -31,10 +31,6 @@ returns-then-word-gt-LONGEST c =
     declared-long (book_of c.args.text.now c.args.self.now) (name_at c.args.text.now c.args.word.place) _ (new (goal.at.returns-then-word-gt-LONGEST c).Else-is_some)
     (omega (arith, c.if-word-gt-LONGEST.true, c.requires))
 
-pub invariant_of-self : goal.invariant_of-self
-invariant_of-self c =
-    record { sound = record { for_rules = omega (arith, c.push.ensures.room, c.args.self.now.sound.for_rules); for_statements = c.args.self.now.sound.for_statements; for_words = c.args.self.now.sound.for_words; packed = c.args.self.now.sound.packed; within = c.args.self.now.sound.within } }
-
 pub returns : goal.returns
 returns c =
     let text = c.args.text.now in

@@ -1,18 +1,16 @@
 -- What a line of a listing says, part by part. Assumes nothing.
-use Rattle.std.proofs.Common.{◌≡◌, ℕ, ◌+◌, ◌-◌, ◌<◌, ◌≤◌, Bool, true, false, cond, not, leb, List, ◌∷◌, length, take, drop, Some, None, Ok, Err, codes, Option, Result, sym, refl, ap, ◌∙◌, arith}
+use Rattle.std.proofs.Common.{◌≡◌, ℕ, ◌+◌, ◌-◌, ◌<◌, ◌≤◌, Bool, true, false, cond, not, leb, List, length, take, drop, Some, None, Ok, Err, codes, Option, sym, refl, ap, ◌∙◌, arith}
 use Rattle.std.specs.Str.{bytes_eq}
 use Rattle.std.proofs.lemmas.Slice.Eq.{bytes_eq-Decides}
 use Rattle.std.proofs.lemmas.List.{drop-take, drop-drop, take-take, take_all, length-take, length-drop}
-use Rattle.std.proofs.lemmas.Bool.{cond-true, cond-false, and_from, and_left, and_right, not_from_false, not_from_true, le-leb, lt-leb}
-use Rattle.terms.specs.declared.At.{At}
+use Rattle.std.proofs.lemmas.Bool.{cond-true, cond-false, and_from, and_left, and_right, not_from_false, le-leb, lt-leb}
 use Rattle.terms.specs.Lists.{◌▷◌}
 use Rattle.terms.specs.Names.{is_name}
 use Rattle.words.specs.declared.class.Class.TheVariants.{Digit}
 use Rattle.words.specs.Runs.{is_of, front, beyond}
 use Rattle.words.proofs.Spans.{take-front, drop_run}
-use Rattle.listing.specs.declared.fault.ListingFault.{ListingFault}
 use Rattle.listing.specs.declared.fault.ListingFault.TheVariants.{BadLine, PastRows}
-use Rattle.listing.specs.Rows.{Listed, decimal, digits_of, name_of, is_row, row_of, is_listed, row_added, read_rows}
+use Rattle.listing.specs.Rows.{Listed, decimal, digits_of, name_of, is_row, row_of, is_listed, row_added}
 
 -- a number that was found is the one that was meant
 pub found_number : (b : Bool) (n m : ℕ) → Some m ≡ cond b (Some n) None → (b ≡ true) × (m ≡ n)

@@ -5,7 +5,7 @@ ghost use Rattle.manifest.specs.Bindings.{binding_of};
 use lists::part;
 use words::{Class, all_of, begins, span_end};
 
-// Whether the binding that stands from `at` on is `deps = gcc`; none where it is no binding.
+// Whether the binding that stands from `at` on is `deps = gcc`; none where it is no binding. A bool within: no other binding is told apart from the rest.
 pub(super) fn binding_at(bytes: &[u8], at: usize) -> Option<bool>
     ensures { result ≡ binding_of (drop at bytes.now) }
 {

@@ -8,8 +8,8 @@ cd "$(dirname "$0")/.."
 copy=$(mktemp -d)
 trap 'rm -rf "$copy"' EXIT
 mkdir -p "$copy/crates/draftuse/src"
-cp -r crates/medium "$copy/crates/medium"
-printf 'medium:\ndraftuse: medium\n' >"$copy/crates.txt"
+cp -r crates/terms crates/medium "$copy/crates"
+printf 'terms:\nmedium: terms\ndraftuse: terms medium\n' >"$copy/crates.txt"
 cat >"$copy/right.rt" <<'RATTLE'
 // Writes new live bytes in the place of the old ones.
 #![tactic(auto)]

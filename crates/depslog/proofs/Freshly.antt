@@ -1,33 +1,42 @@
 -- Names that are not known yet. Assumes nothing.
-use Rattle.std.proofs.Common.{◌≡◌, ℕ, ◌+◌, ◌<◌, Bool, true, false, cond, ◌||◌, List, [], ◌∷◌, ◌++◌, map, length, get_or, take, set, is_some, Some, None, Decides, Option, sym, refl, ap, ◌∙◌, arith}
+use Rattle.std.proofs.Common.{◌≡◌, ℕ, ◌+◌, ◌<◌, Bool, true, false, cond, ◌||◌, List, [], ◌∷◌, ◌++◌, length, is_some, Some, None, Option, sym, refl, ap, ◌∙◌, arith}
 use Rattle.std.specs.Option.{option_map}
+use Rattle.std.specs.Borrow.{Bor}
+use Rattle.std.specs.List.{list_any, position, position_from}
+use Rattle.std.proofs.lemmas.Iterator.Adapters.{position_from-zero}
 use Rattle.std.specs.Str.{bytes_eq}
-use Rattle.std.proofs.lemmas.List.{append-nil, append_assoc, get_or-map, get_or-take, length-map, length-take-le, map_push, take_more, take_more_set}
+use Rattle.std.proofs.lemmas.Slice.Eq.{bytes_eq-Decides}
+use Rattle.std.proofs.lemmas.List.{append-nil, append_assoc, map_push}
 use Rattle.std.proofs.lemmas.Bool.{cond-true, cond-false, or_left, or_right, or_from, or_parts}
-use Rattle.terms.specs.declared.Place.{Place}
 use Rattle.terms.specs.Lists.{some, is_in, place_from, place_in, ◌▷◌}
 use Rattle.image.proofs.Lookup.{decided}
 use Rattle.image.proofs.Tests.{place_in_lem}
 use Rattle.notes.specs.Notes.{unknown, new_names, id_at, id_in}
 use Rattle.notes.proofs.Places as places
-use Rattle.depslog.specs.declared.fresh.Fresh.{Fresh}
-use Rattle.terms.specs.Places.{at_place}
-use Rattle.depslog.specs.FreshNames.{fresh_names}
+use Rattle.depslog.specs.Texts.{texts}
 
-pub fresh_long : (bytes : List ℕ) (f : Fresh) → length (fresh_names bytes f) ≡ f.count
-fresh_long bytes f = length-map (take f.count f.places) (at_place bytes) ∙ length-take-le f.count f.places (omega (arith, f.few, f.long))
+-- Names by references ------------------------------------------------------------------------------------------------------
 
--- the name at an index
-pub fresh_at : (bytes : List ℕ) (f : Fresh) (k : ℕ) (d : Place) → k < f.count → get_or (fresh_names bytes f) k [] ≡ at_place bytes (get_or f.places k d)
-fresh_at bytes f k d h =
-    get_or-map (at_place bytes) (take f.count f.places) k d [] (omega (arith, h, length-take-le f.count f.places (omega (arith, f.few, f.long)))) ∙
-    ap (at_place bytes) (get_or-take f.count f.places k d h)
+same-turned : (a b : List ℕ) → bytes_eq a b ≡ bytes_eq b a
+same-turned a b = let q = bytes_eq-Decides b a in decided (bytes_eq b a) a b ((λ t. sym (q.0 t)), (λ s. q.1 (sym s)))
 
--- whether the name at an index is the one that is asked for
-pub fresh_asked : (bytes name cutout : List ℕ) (f : Fresh) (k : ℕ) (d : Place) (r : Bool) → k < f.count → cutout ≡ at_place bytes (get_or f.places k d) → Decides r (cutout ≡ name) →
-    bytes_eq name (get_or (fresh_names bytes f) k []) ≡ r
-fresh_asked bytes name cutout f k d r h e q =
-    ap (bytes_eq name) (fresh_at bytes f k d h ∙ sym e) ∙ decided r name cutout ((λ t. sym (q.0 t)), (λ s. q.1 (sym s)))
+pub contained : (n : List ℕ) (xs : List (Bor (List ℕ))) → list_any (λ (y : Bor (List ℕ)). bytes_eq y.now n) xs ≡ is_in n (texts xs)
+contained n [] = refl
+contained n (x ∷ xs) =
+    ap (λ (b : Bool). b || list_any (λ (y : Bor (List ℕ)). bytes_eq y.now n) xs) (same-turned x.now n) ∙ ap (λ (b : Bool). bytes_eq n x.now || b) (contained n xs)
+
+-- where a name stands among these
+placed_from : (n : List ℕ) (i : ℕ) (xs : List (Bor (List ℕ))) → position_from (λ (y : Bor (List ℕ)). bytes_eq y.now n) i xs ≡ place_from i (bytes_eq n) (texts xs)
+placed_from n i [] = refl
+placed_from n i (x ∷ xs) =
+    ap (λ (b : Bool). cond b (Some i) (position_from (λ (y : Bor (List ℕ)). bytes_eq y.now n) (i + 1) xs)) (same-turned x.now n) ∙
+    ap (cond (bytes_eq n x.now) (Some i)) (placed_from n (i + 1) xs)
+
+pub place_among : (n : List ℕ) (xs : List (Bor (List ℕ))) → position (λ (y : Bor (List ℕ)). bytes_eq y.now n) xs ≡ place_in n (texts xs)
+place_among n xs = position_from-zero (λ (y : Bor (List ℕ)). bytes_eq y.now n) xs ∙ placed_from n 0 xs
+
+pub texts_push : (xs : List (Bor (List ℕ))) (x : Bor (List ℕ)) → texts (xs ▷ x) ≡ texts xs ▷ x.now
+texts_push xs x = map_push (λ (y : Bor (List ℕ)). y.now) xs x
 
 -- Taking a name in ---------------------------------------------------------------------------------------------------------
 
@@ -46,11 +55,6 @@ is_known_lem n known fresh a = cond-true (is_in n (known ++ fresh)) [] (n ∷ []
 
 pub is-taken : (n : List ℕ) (known fresh : List (List ℕ)) → is_in n fresh ≡ true → unknown (known ++ fresh) n ≡ []
 is-taken n known fresh a = cond-true (is_in n (known ++ fresh)) [] (n ∷ []) (in_both n known fresh ∙ or_right (is_in n known) (is_in n fresh) a)
-
--- one place more
-pub fresh_more : (bytes : List ℕ) (places : List Place) (count : ℕ) (p : Place) → count < length places →
-    map (at_place bytes) (take (count + 1) (set places count p)) ≡ map (at_place bytes) (take count places) ▷ at_place bytes p
-fresh_more bytes places count p h = ap (map (at_place bytes)) (take_more_set places count p h) ∙ map_push (at_place bytes) (take count places) p
 
 -- what is left to be taken in
 pub new-next : (known fresh : List (List ℕ)) (n : List ℕ) (ns : List (List ℕ)) →
@@ -71,9 +75,6 @@ together-none known ns = ap (λ (xs : List (List ℕ)). new_names xs ns) (append
 
 pub together-all : (known fresh : List (List ℕ)) → together known fresh [] ≡ fresh
 together-all known fresh = append-nil fresh
-
-pub fresh_none : (bytes : List ℕ) (f : Fresh) → f.count ≡ 0 → fresh_names bytes f ≡ []
-fresh_none bytes f e = ap (λ (k : ℕ). map (at_place bytes) (take k f.places)) e
 
 -- Ids ----------------------------------------------------------------------------------------------------------------------
 
@@ -114,16 +115,3 @@ id_new n known fresh k e f =
 -- any other has none
 pub id_none : (n : List ℕ) (known fresh : List (List ℕ)) → None ≡ place_in n known → None ≡ place_in n fresh → 0 ≡ id_in (known ++ fresh) n
 id_none n known fresh e f = sym (ap id_at (place-behind n known fresh e ∙ ap (option_map (λ (j : ℕ). length known + j)) (sym f)))
-
--- the ids of names at places
-abbrev pub ids_of : List (List ℕ) → List ℕ → List Place → List ℕ
-ids_of names bytes ps = map (id_in names) (map (at_place bytes) ps)
-
-pub ids_more : (names : List (List ℕ)) (bytes : List ℕ) (ps : List Place) (k : ℕ) (d : Place) → k < length ps →
-    ids_of names bytes (take (k + 1) ps) ≡ ids_of names bytes (take k ps) ▷ id_in names (at_place bytes (get_or ps k d))
-ids_more names bytes ps k d h =
-    ap (ids_of names bytes) (take_more ps k d h) ∙ ap (map (id_in names)) (map_push (at_place bytes) (take k ps) (get_or ps k d)) ∙
-    map_push (id_in names) (map (at_place bytes) (take k ps)) (at_place bytes (get_or ps k d))
-
-pub ids-long : (names : List (List ℕ)) (bytes : List ℕ) (ps : List Place) → length (ids_of names bytes ps) ≡ length ps
-ids-long names bytes ps = length-map (map (at_place bytes) ps) (id_in names) ∙ length-map ps (at_place bytes)

@@ -1,9 +1,13 @@
-pub mod Inputs
 pub mod Cuts
 pub mod Freshly
+pub mod Drafts
+pub mod Paths
 pub mod Appends
+pub mod Pieces
+pub mod Telling
 pub mod Wrote
 pub mod Noted
+pub mod Addings
 pub mod NoteCases
 pub mod Opens
 pub mod Faults

@@ -1,17 +1,17 @@
 -- What a note answers, case by case. Assumes nothing.
-use Rattle.std.proofs.Common.{◌≡◌, ℕ, ◌+◌, ◌^◌, ◌<◌, ◌≤◌, Bool, true, false, cond, ltb, List, ◌∷◌, ◌++◌, map, length, Some, None, Ok, Err, Option, Result, sym, refl, ap, ◌∙◌, subst, inl, inr, arith}
+use Rattle.std.proofs.Common.{◌≡◌, ℕ, ◌+◌, ◌^◌, ◌<◌, ◌≤◌, Bool, true, false, cond, not, ◌&&◌, ltb, List, ◌∷◌, length, Some, None, Ok, Err, Option, Result, sym, refl, ap, ◌∙◌, subst, inl, inr, arith}
 use Rattle.std.proofs.lemmas.List.{length-append, length-map}
 use Rattle.std.proofs.lemmas.Bool.{false≢true, cond-true, cond-false, lt-ltb, le-ltb}
-use Rattle.medium.specs.declared.Fault.TheVariants as Fault
+use Rattle.medium.specs.declared.Fault.{Fault}
+use Rattle.medium.specs.declared.Fault.TheVariants as fault
+use Rattle.medium.specs.Refusals.{refusal_of, is_off}
 use Rattle.medium.specs.State.{State}
 use Rattle.terms.specs.declared.Place.{Place}
 use Rattle.terms.specs.declared.Refusal.{Refusal}
 use Rattle.terms.specs.declared.Refusal.TheVariants.{PowerOff, Full, TooManyInputs, TooManyPaths}
-use Rattle.image.specs.Bytes.{path, deps, record_bytes}
-use Rattle.image.specs.Tables.{Entry, Table, learn_all}
-use Rattle.image.specs.Learning.{deps_learned}
+use Rattle.image.specs.Tables.{Table, learn_all}
 use Rattle.image.specs.Kept.{Kept}
-use Rattle.notes.specs.Notes.{Note, unchanged, new_names, names_of, id_in, note_bytes, note_table}
+use Rattle.notes.specs.Notes.{Note, unchanged, new_names, names_of, note_bytes, note_table}
 use Rattle.terms.specs.Places.{at_place}
 use Rattle.notes.specs.Meant.{meant}
 use Rattle.notes.specs.Wholeness.{Fitting}
@@ -21,35 +21,13 @@ use Rattle.depslog.specs.Calls.{Judged, Ended}
 use Rattle.depslog.specs.Checks.{refuse}
 use Rattle.depslog.specs.Noting.{name_fault}
 use Rattle.depslog.specs.Appending.{AppendedAll}
-use Rattle.depslog.specs.NoteCall.{note_fault, no_room, NewlyNoted, NotedLog}
+use Rattle.depslog.specs.NoteCall.{note_fault, no_room, NewlyNoted, NotedLog, WrittenOn}
 use Rattle.depslog.proofs.Cuts.{Checked}
-use Rattle.depslog.proofs.Appends.{paths}
-use Rattle.depslog.proofs.Noted.{bytes_are, learned-all, names-bad, names-good}
+use Rattle.depslog.proofs.Noted.{names-bad, names-good}
 
 -- a log, open or closed
-abbrev on : Bool → Table → State → LogState
+abbrev pub on : Bool → Table → State → LogState
 on b t m = cond b (open_on t m) (closed_on m)
-
--- the records that are appended are those of the note
-pub written-bytes : (t : Table) (n : Note) (first id : ℕ) (fresh : List (List ℕ)) (e : Entry) → unchanged t n ≡ false → first ≡ length t.names → fresh ≡ new_names t.names (names_of n) →
-    id ≡ id_in (t.names ++ fresh) n.output → e ≡ record { mtime = n.says.mtime; inputs = map (id_in (t.names ++ fresh)) n.says.inputs } →
-    paths first fresh ++ record_bytes 0 (deps id e.mtime e.inputs) ≡ note_bytes t n
-written-bytes t n first id fresh e new f g h k =
-    let W : ℕ → List (List ℕ) → ℕ → Entry → List ℕ = λ a ns i x. paths a ns ++ record_bytes 0 (deps i x.mtime x.inputs) in
-    let E : List (List ℕ) → Entry = λ ns. record { mtime = n.says.mtime; inputs = map (id_in (t.names ++ ns)) n.says.inputs } in
-    ap (λ (a : ℕ). W a fresh id e) f ∙ ap (λ (i : ℕ). W (length t.names) fresh i e) h ∙ ap (λ (x : Entry). W (length t.names) fresh (id_in (t.names ++ fresh) n.output) x) k ∙
-    ap (λ (ns : List (List ℕ)). W (length t.names) ns (id_in (t.names ++ ns) n.output) (E ns)) g ∙ sym (bytes_are t n new)
-
--- and the table that is left is what is known then
-pub learned_then : (t v u : Table) (n : Note) (id : ℕ) (fresh : List (List ℕ)) (e : Entry) (r : Bool) → unchanged t n ≡ false → v ≡ learn_all t (map path fresh) → fresh ≡ new_names t.names (names_of n) →
-    id ≡ id_in (t.names ++ fresh) n.output → e ≡ record { mtime = n.says.mtime; inputs = map (id_in (t.names ++ fresh)) n.says.inputs } → (r, u) ≡ deps_learned v id e → u ≡ note_table t n
-learned_then t v u n id fresh e r new f g h k l =
-    let E : List (List ℕ) → Entry = λ ns. record { mtime = n.says.mtime; inputs = map (id_in (t.names ++ ns)) n.says.inputs } in
-    learned-all t n new r u (
-    l ∙ ap (λ (x : Table). deps_learned x id e) f ∙ ap (λ (i : ℕ). deps_learned (learn_all t (map path fresh)) i e) h ∙
-    ap (deps_learned (learn_all t (map path fresh)) (id_in (t.names ++ fresh) n.output)) k ∙
-    ap (λ (ns : List (List ℕ)). deps_learned (learn_all t (map path ns)) (id_in (t.names ++ ns) n.output) (E ns)) g
-    )
 
 -- A note that says something new ------------------------------------------------------------------------------------------------
 
@@ -64,13 +42,22 @@ module _ (t : Table) (n : Note) (m k : State) where
   newly_all false u o e a w = absurd (false≢true o)
   newly_all true u o e a w = subst (λ (x : Bool). Rest x (Ok tt) (open_on u k)) (sym e) (inl (record { answer = refl; done = a; after = ap (λ (v : Table). open_on v k) w }))
 
-  pub newly_full : (b : Bool) → b ≡ true → no_room m bs ≡ true → k ≡ m → NewlyNoted n (on b t m) (Err Full) (on b t k)
+  newly_full : (b : Bool) → b ≡ true → no_room m bs ≡ true → k ≡ m → NewlyNoted n (on b t m) (Err Full) (on b t k)
   newly_full false o e w = absurd (false≢true o)
   newly_full true o e w = subst (λ (x : Bool). Rest x (Err Full) (open_on t k)) (sym e) (refl, ap (open_on t) w)
 
-  pub newly_off : (b : Bool) → b ≡ true → no_room m bs ≡ false → AppendedAll {A = Unit {0}} bs m (Err Fault.Off) k → NewlyNoted n (on b t m) (Err PowerOff) (closed_on k)
+  newly_off : (b : Bool) → b ≡ true → no_room m bs ≡ false → AppendedAll {A = Unit {0}} bs m (Err fault.Off) k → NewlyNoted n (on b t m) (Err PowerOff) (closed_on k)
   newly_off false o e a = absurd (false≢true o)
   newly_off true o e a = subst (λ (x : Bool). Rest x (Err PowerOff) (closed_on k)) (sym e) (inr (record { answer = refl; done = a; after = refl }))
+
+  -- what the medium says is the log's answer, and a failure closes it
+  pub newly_not : (b o : Bool) (f : Fault) (r : Refusal) → b ≡ true → WrittenOn bs m (Err f) k → r ≡ refusal_of f → o ≡ (b && not (is_off f)) → NewlyNoted n (on b t m) (Err r) (on o t k)
+  newly_not b o fault.Full r e w a c =
+      let z : (b && true) ≡ true = ap (λ (x : Bool). x && true) e in
+      rw (a, c) (subst (λ (x : Bool). NewlyNoted n (on b t m) (Err Full) (on x t k)) (e ∙ sym z) (newly_full b e w.0 w.1))
+  newly_not b o fault.Off r e w a c =
+      let z : (b && false) ≡ false = ap (λ (x : Bool). x && false) e in
+      rw (a, c) (subst (λ (x : Bool). NewlyNoted n (on b t m) (Err PowerOff) (on x t k)) (sym z) (newly_off b e w.0 w.1))
 
 -- Its checks ----------------------------------------------------------------------------------------------------------------------
 

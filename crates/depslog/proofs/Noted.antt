@@ -20,14 +20,14 @@ use Rattle.notes.proofs.Places.{ids-below}
 use Rattle.notes.proofs.Keeping.{front_writable}
 use Rattle.depslog.specs.Noting.{outside, name_fault}
 use Rattle.depslog.proofs.Cuts.{Checked}
-use Rattle.depslog.proofs.Appends.{paths}
+use Rattle.depslog.specs.Drafting.{paths_bytes}
 
 -- What is written ------------------------------------------------------------------------------------------------------------
 
-paths-deps : (id : ℕ) (ns : List (List ℕ)) (output mtime : ℕ) (inputs : List ℕ) → records_bytes id (map path ns ▷ deps output mtime inputs) ≡ paths id ns ++ record_bytes 0 (deps output mtime inputs)
+paths-deps : (id : ℕ) (ns : List (List ℕ)) (output mtime : ℕ) (inputs : List ℕ) → records_bytes id (map path ns ▷ deps output mtime inputs) ≡ paths_bytes id ns ++ record_bytes 0 (deps output mtime inputs)
 paths-deps id [] output mtime inputs = append-nil (record_bytes 0 (deps output mtime inputs))
 paths-deps id (n ∷ ns) output mtime inputs =
-    ap (λ (xs : List ℕ). record_bytes id (path n) ++ xs) (paths-deps (id + 1) ns output mtime inputs) ∙ sym (append_assoc (record_bytes id (path n)) (paths (id + 1) ns) (record_bytes 0 (deps output mtime inputs)))
+    ap (λ (xs : List ℕ). record_bytes id (path n) ++ xs) (paths-deps (id + 1) ns output mtime inputs) ∙ sym (append_assoc (record_bytes id (path n)) (paths_bytes (id + 1) ns) (record_bytes 0 (deps output mtime inputs)))
 
 -- new names are names
 pub new-named : (known xs : List (List ℕ)) → every is_name xs ≡ true → every is_name (new_names known xs) ≡ true
@@ -43,7 +43,7 @@ module _ (t : Table) (n : Note) (new : unchanged t n ≡ false) where
   abbrev known : List (List ℕ)
   known = extended t.names n
 
-  pub bytes_are : note_bytes t n ≡ paths (length t.names) (new_names t.names (names_of n)) ++ record_bytes 0 (deps_of known n)
+  pub bytes_are : note_bytes t n ≡ paths_bytes (length t.names) (new_names t.names (names_of n)) ++ record_bytes 0 (deps_of known n)
   bytes_are =
       ap (records_bytes (length t.names)) (records-full t n new) ∙
       paths-deps (length t.names) (new_names t.names (names_of n)) (id_in known n.output) n.says.mtime (map (id_in known) n.says.inputs)

@@ -1,5 +1,5 @@
 -- The parts of an open. Assumes nothing.
-use Rattle.std.proofs.Common.{◌≡◌, ℕ, ◌-◌, ◌<◌, ◌≤◌, Bool, true, false, cond, List, [], ◌∷◌, ◌++◌, length, take, drop, is_err, Ok, Err, Result, sym, refl, ap, ◌∙◌, subst, inl, inr, arith}
+use Rattle.std.proofs.Common.{◌≡◌, ℕ, ◌<◌, ◌≤◌, Bool, true, false, cond, List, [], ◌∷◌, ◌++◌, length, take, drop, is_err, Ok, Err, Result, sym, refl, ap, ◌∙◌, subst, inl, inr, arith}
 use Rattle.std.specs.Str.{bytes_eq}
 use Rattle.std.proofs.lemmas.Slice.Eq.{bytes_eq-Decides}
 use Rattle.std.proofs.lemmas.List.{take_all, length-take-le}
@@ -76,9 +76,9 @@ mended-empty [] m r n e w = w
 mended-empty (x ∷ xs) m r n e w = absurd (omega (arith, e))
 
 pub mended-short : (live : List ℕ) (good : ℕ) (m : State) (r : Result (Unit {0}) Refusal) (n : State) → 0 < length live → good ≡ (scanned live).past → good < length live →
-    PutInPlace (take (good - 0) live) m r n → MendedLive live m r n
+    PutInPlace (take good live) m r n → MendedLive live m r n
 mended-short live good m r n p e h w =
-    let g : take (good - 0) live ≡ good_bytes live = ap (λ (k : ℕ). take k live) (omega arith) ∙ sym (good-is live good p e) in
+    let g : take good live ≡ good_bytes live = sym (good-is live good p e) in
     subst (λ (b : Bool). cond b (PutInPlace (good_bytes live) m r n) (Went (Synced m) r n)) (sym (mends-short live good p e h)) (subst (λ (xs : List ℕ). PutInPlace xs m r n) g w)
 
 pub mended-not : (live : List ℕ) (good : ℕ) (m : State) (r : Result (Unit {0}) Refusal) (n : State) → 0 < length live → good ≡ (scanned live).past → length live ≤ good →

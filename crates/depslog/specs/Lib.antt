@@ -4,7 +4,11 @@ pub mod Replacing
 pub mod Calls
 pub mod Opening
 pub mod Noting
-pub mod FreshNames
 pub mod Appending
+pub mod Drafting
+pub mod Putting
+pub mod Sinks
+pub mod Texts
+pub mod Adding
 pub mod NoteCall
 pub mod Recompacting

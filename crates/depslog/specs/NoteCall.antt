@@ -1,6 +1,7 @@
 -- What a note answers, and what it leaves. Assumes nothing.
 use Rattle.std.specs.Prelude.{◌≡◌, ℕ, ◌+◌, Bool, true, false, cond, not, ◌&&◌, List, ◌∷◌, length, None, Ok, Err, Option, Result, nat_lt}
-use Rattle.medium.specs.declared.Fault.TheVariants as Fault
+use Rattle.medium.specs.declared.Fault.{Fault}
+use Rattle.medium.specs.declared.Fault.TheVariants as fault
 use Rattle.medium.specs.State.{State}
 use Rattle.terms.specs.declared.Place.{Place}
 use Rattle.terms.specs.declared.Refusal.{Refusal}
@@ -8,8 +9,6 @@ use Rattle.terms.specs.declared.Refusal.TheVariants.{PowerOff, Full, Closed, Too
 use Rattle.image.specs.Tables.{Table}
 use Rattle.notes.specs.Notes.{Note, unchanged, note_bytes, note_table}
 use Rattle.notes.specs.Meant.{meant}
-use Rattle.depslog.specs.declared.writing.Written.{Written}
-use Rattle.depslog.specs.declared.writing.Written.TheVariants.{All, NoRoom, Off}
 use Rattle.depslog.specs.State.{LogState, live_of}
 use Rattle.depslog.specs.Checks.{refuse}
 use Rattle.depslog.specs.Calls.{Judged, Ended}
@@ -41,7 +40,7 @@ NotedLog bytes output mtime inputs s r t =
     (cond (unchanged s.table (meant bytes output mtime inputs)) ((r ≡ Ok tt) × (t ≡ s)) (NewlyNoted (meant bytes output mtime inputs) s r t))
 
 -- All of the bytes were appended; or there was no room, and nothing changed; or the power was off or failed.
-abbrev pub WrittenOn : List ℕ → State → Written → State → Type 0
-WrittenOn bs m All n = (no_room m bs ≡ false) × AppendedAll {A = Unit {0}} bs m (Ok tt) n
-WrittenOn bs m NoRoom n = (no_room m bs ≡ true) × (n ≡ m)
-WrittenOn bs m Off n = (no_room m bs ≡ false) × AppendedAll {A = Unit {0}} bs m (Err Fault.Off) n
+abbrev pub WrittenOn : List ℕ → State → Result (Unit {0}) Fault → State → Type 0
+WrittenOn bs m (Ok x) n = (no_room m bs ≡ false) × AppendedAll {A = Unit {0}} bs m (Ok tt) n
+WrittenOn bs m (Err fault.Full) n = (no_room m bs ≡ true) × (n ≡ m)
+WrittenOn bs m (Err fault.Off) n = (no_room m bs ≡ false) × AppendedAll {A = Unit {0}} bs m (Err fault.Off) n

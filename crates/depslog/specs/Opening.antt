@@ -1,6 +1,8 @@
 -- The parts of an open: copying the live bytes, and mending them. m is the medium before and n after. Assumes nothing.
 use Rattle.std.specs.Prelude.{◌≡◌, ℕ, ◌<◌, ◌≤◌, true, false, cond, ◌⊎◌, List, length, Ok, Err, Result, nat_lt}
+use Rattle.medium.specs.declared.Fault.{Fault}
 use Rattle.medium.specs.declared.Fault.TheVariants.{Off}
+use Rattle.medium.specs.declared.Fault.TheVariants as fault
 use Rattle.medium.specs.State.{State, with_power}
 use Rattle.medium.specs.Calls.{Synced}
 use Rattle.terms.specs.declared.Refusal.{Refusal}
@@ -10,6 +12,11 @@ use Rattle.depslog.specs.State.{live_of}
 use Rattle.depslog.specs.Checks.{mends}
 use Rattle.depslog.specs.Replacing.{Replaced}
 use Rattle.depslog.specs.Calls.{Doing, copied}
+
+-- the refusal for a medium's fault once the live bytes are copied
+abbrev pub lost_by : Fault → Refusal
+lost_by Off = PowerLost
+lost_by fault.Full = Full
 
 -- the power does not return
 pub record CopyDark (m : State) (buffer : List ℕ) (r : Result ℕ Refusal) (n : State) (after : List ℕ) : Type 0 where

@@ -4,7 +4,7 @@ use Rattle.terms.specs.declared.Refusal.{Refusal}
 use Rattle.terms.specs.declared.Refusal.TheVariants.{PowerOff, Full, Closed}
 use Rattle.image.specs.Tables.{Table}
 use Rattle.notes.specs.Compacting.{compact_bytes, compact_table}
-use Rattle.rewriting.specs.Replacing.{Replaced}
+use Rattle.depslog.specs.Replacing.{Replaced}
 use Rattle.depslog.specs.State.{LogState}
 use Rattle.depslog.specs.Checks.{refuse}
 use Rattle.depslog.specs.Calls.{Judged, Ended}

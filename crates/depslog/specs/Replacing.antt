@@ -1,6 +1,7 @@
 -- Replacing all live bytes at once, by a draft. Assumes nothing.
-use Rattle.std.specs.Prelude.{ℕ, ◌⊎◌, List, Result}
+use Rattle.std.specs.Prelude.{◌≡◌, ℕ, cond, ◌⊎◌, List, length, Err, Result, nat_lt}
 use Rattle.medium.specs.declared.Fault.{Fault}
+use Rattle.medium.specs.declared.Fault.TheVariants.{Full}
 use Rattle.medium.specs.State.{State, settled, none, with_live, with_draft}
 use Rattle.medium.specs.Failure.{Fell}
 use Rattle.medium.specs.Calls.{Step}
@@ -16,3 +17,7 @@ Replaced xs s r t = Step (Unit {0}) ⊥ (replaced xs s) (λ u. Fell s.live s u �
 -- The draft is filled and synced; a failure meets the old live bytes.
 abbrev pub DraftFilled : {A : Type 0} → List ℕ → State → Result A Fault → State → Type 0
 DraftFilled xs s r t = Step (Unit {0}) ⊥ (with_draft (settled xs) s) (Fell s.live s) s r t
+
+-- Bytes that do not fit are refused, and nothing changes; others take the place of all live bytes.
+abbrev pub InPlace : {A : Type 0} → List ℕ → State → Result A Fault → State → Type 0
+InPlace xs s r t = cond (nat_lt s.capacity (length xs)) ((r ≡ Err Full) × (t ≡ s)) (Replaced xs s r t)

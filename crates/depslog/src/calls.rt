@@ -1,15 +1,16 @@
 // Making a log, and the calls that write nothing of their own.
-ghost use Rattle.std.specs.Prelude.{◌≡◌, MatchResult};
+ghost use Rattle.std.specs.Prelude.{◌≡◌, not, ◌&&◌, MatchResult};
+ghost use Rattle.medium.specs.Refusals.{refusal_of, is_off};
 ghost use Rattle.std.specs.Option.{option_map};
 ghost use Rattle.depslog.specs.State.{state_of, closed_on};
 ghost use Rattle.depslog.specs.Calls.{SyncedLog, FailedLog, find_answer, input_name};
 
 use super::log::Log;
-use image::{DepsTable, Name};
-use medium::Medium;
+use image::DepsTable;
+use medium::{Fault, Medium};
 use notes::find;
 use std::alloc::{AllocFailed, Global};
-use terms::{Found, Refusal};
+use terms::{Found, Refusal, is_name};
 
 impl<M: Medium> Log<M> {
     // A closed log on a medium, with all the memory that it will ever need; the medium comes back where there is none.
@@ -52,11 +53,21 @@ impl<M: Medium> Log<M> {
         }
         match self.medium.sync() {
             Ok(()) => Ok(()),
-            Err(_) => {
-                self.open = false;
-                Err(Refusal::PowerOff)
-            }
+            Err(fault) => Err(self.refused(fault)),
         }
+    }
+
+    // The refusal for what the medium says; a failure of the power closes the log.
+    pub(super) fn refused(&mut self, fault: Fault) -> Refusal
+        ensures refusal { result ≡ refusal_of fault }
+        ensures opened { self.new.open ≡ (self.old.open && not (is_off fault)) }
+        ensures medium { self.new.medium ≡ self.old.medium }
+        ensures table { self.new.table ≡ self.old.table }
+    {
+        if fault == Fault::Off {
+            self.open = false;
+        }
+        fault.into()
     }
 
     // Fails the medium's power, and closes the log.
@@ -74,7 +85,7 @@ impl<M: Medium> Log<M> {
         if !self.open {
             return Err(Refusal::Closed);
         }
-        if Name::new(output).is_none() {
+        if !is_name(output) {
             return Err(Refusal::NotName(0));
         }
         Ok(find(&self.table, output))
@@ -87,13 +98,8 @@ impl<M: Medium> Log<M> {
         if !self.open {
             return None;
         }
-        let Some(entry) = self.table.entry(index) else {
-            return None;
-        };
-        let inputs = entry.inputs();
-        if k >= inputs.len() {
-            return None;
-        }
-        self.table.name(inputs[k] as usize)
+        let entry = self.table.entry(index)?;
+        let id = entry.inputs().get(k)?;
+        self.table.name(*id as usize)
     }
 }

@@ -1,18 +1,20 @@
 // The log on any medium.
 #![tactic(auto)]
 
+mod added;
+mod adding;
 mod calls;
-mod finding;
-mod fresh;
-mod learning;
 mod log;
 mod names;
 mod noting;
 mod opened;
 mod opening;
+mod putting;
 mod recompacting;
-mod replace;
-mod writing;
+mod recompaction;
+mod replacing;
+mod sink;
+mod told;
 
 pub use log::Log;
 pub use opened::Opened;

@@ -1,83 +1,52 @@
 // Noting what an output was made from.
-ghost use Rattle.std.specs.Prelude.{◌≡◌, ◌≤◌, true, false, ◌∷◌, map, length};
-ghost use Rattle.image.specs.Learning.{view};
-ghost use Rattle.notes.specs.Notes.{unchanged, new_names};
-ghost use Rattle.terms.specs.Places.{at_place};
-ghost use Rattle.notes.specs.Meant.{meant};
-ghost use Rattle.notes.specs.Wholeness.{Fitting};
 ghost use Rattle.depslog.specs.State.{state_of};
-ghost use Rattle.depslog.specs.FreshNames.{fresh_names};
-ghost use Rattle.depslog.specs.NoteCall.{NewlyNoted, NotedLog};
+ghost use Rattle.depslog.specs.Adding.{bytes_added};
+ghost use Rattle.depslog.specs.NoteCall.{NotedLog, WrittenOn};
 
-use super::finding::{entry_for, fresh_names, id_in};
-use super::fresh::Fresh;
-use super::learning::learn_names;
+use super::added::Added;
 use super::log::Log;
-use super::names::check_names;
-use super::writing::{Written, append_note};
-use medium::Medium;
-use notes::is_unchanged;
-use terms::{Place, Refusal};
+use super::names::told;
+use super::sink::Live;
+use medium::{Fault, Medium, fits};
+use notes::{Given, is_unchanged};
+use terms::Refusal;
+
+// Appends what a note adds, where there is room for all of it.
+fn append<M: Medium>(medium: &mut M, added: &Added) -> Result<(), Fault>
+    ensures { WrittenOn (bytes_added added.now) (M.Medium.state medium.old) result (M.Medium.state medium.new) }
+{
+    let used = medium.length()?;
+    if !fits(used, added.length(), medium.capacity()) {
+        return Err(Fault::Full);
+    }
+    added.put(&Live, medium)
+}
 
 impl<M: Medium> Log<M> {
-    // Writes a note that says something new, and learns it.
-    fn write_note(
-        &mut self,
-        bytes: &[u8],
-        fresh: &Fresh,
-        output: Place,
-        mtime: u64,
-        inputs: &[Place],
-    ) -> Result<(), Refusal>
-        requires opened { self.old.open ≡ true }
-        requires few { length inputs.now ≤ 64 }
-        requires fitting { Fitting (view self.old.table) (meant bytes.now output mtime inputs.now) }
-        requires news { unchanged (view self.old.table) (meant bytes.now output mtime inputs.now) ≡ false }
-        requires names { fresh_names bytes.now fresh.now ≡ new_names (view self.old.table).names (map (at_place bytes.now) (output ∷ inputs.now)) }
-        ensures { NewlyNoted (meant bytes.now output mtime inputs.now) (state_of M.Medium.state self.old) result (state_of M.Medium.state self.new) }
-    {
-        let first = self.table.path_count();
-        let id = id_in(&self.table, bytes, fresh, output.of(bytes));
-        let entry = entry_for(&self.table, bytes, fresh, mtime, inputs);
-        match append_note(&mut self.medium, first, bytes, fresh, id as u32, &entry) {
-            Written::All => {
-                learn_names(&mut self.table, bytes, fresh);
-                self.table.learn_deps(id, &entry);
-                Ok(())
-            }
-            Written::NoRoom => Err(Refusal::Full),
-            Written::Off => {
-                self.open = false;
-                Err(Refusal::PowerOff)
-            }
-        }
-    }
-
-    // Notes that an output was made at a time from inputs, all of them named by their places in some bytes.
-    pub fn note(
-        &mut self,
-        bytes: &[u8],
-        output: Place,
-        mtime: u64,
-        inputs: &[Place],
-    ) -> Result<(), Refusal>
-        ensures { NotedLog bytes.now output mtime inputs.now (state_of M.Medium.state self.old) result (state_of M.Medium.state self.new) }
+    // Notes that an output was made at a time from inputs.
+    pub fn note(&mut self, note: &Given) -> Result<(), Refusal>
+        ensures { NotedLog note.now.bytes.now note.now.output note.now.mtime note.now.inputs.now (state_of M.Medium.state self.old) result (state_of M.Medium.state self.new) }
     {
         if !self.open {
             return Err(Refusal::Closed);
         }
-        if inputs.len() > 64 {
+        if note.inputs.len() > 64 {
             return Err(Refusal::TooManyInputs);
         }
-        check_names(bytes, output, inputs)?;
-        let known = self.table.path_count();
-        if is_unchanged(&self.table, bytes, output, mtime, inputs) {
+        let told = told(note)?;
+        if is_unchanged(&self.table, note) {
             return Ok(());
         }
-        let fresh = fresh_names(&self.table, bytes, output, inputs);
-        if known + fresh.count > 256 {
+        let added = Added::to(&self.table, &told);
+        if added.first + added.names.as_slice().len() > 256 {
             return Err(Refusal::TooManyPaths);
         }
-        self.write_note(bytes, &fresh, output, mtime, inputs)
+        match append(&mut self.medium, &added) {
+            Ok(()) => {
+                added.learn(&mut self.table);
+                Ok(())
+            }
+            Err(fault) => Err(self.refused(fault)),
+        }
     }
 }

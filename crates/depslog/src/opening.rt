@@ -3,31 +3,35 @@ ghost use Rattle.std.specs.Prelude.{◌≡◌, true};
 ghost use Rattle.image.specs.Scans.{scanned};
 ghost use Rattle.depslog.specs.State.{state_of};
 ghost use Rattle.depslog.specs.Calls.{OpenedLog};
-ghost use Rattle.depslog.specs.Opening.{CopiedLive, PutInPlace, MendedLive};
+ghost use Rattle.depslog.specs.Opening.{CopiedLive, lost_by, PutInPlace, MendedLive};
 
 use super::log::Log;
 use super::opened::Opened;
-use super::replace::replace;
+use super::replacing::{Bytes, replace};
 use image::HEADER;
-use medium::Medium;
+use medium::{Fault, Medium};
 use terms::Refusal;
 
 // Returns the power, and copies the live bytes to the front of the buffer; how many they are.
 fn copy_live<M: Medium>(medium: &mut M, copy: &mut [u8]) -> Result<usize, Refusal>
     ensures { CopiedLive (M.Medium.state medium.old) copy.old result (M.Medium.state medium.new) copy.new }
 {
-    if medium.power_return().is_err() {
-        return Err(Refusal::PowerOff);
-    }
-    let Ok(len) = medium.length() else {
-        return Err(Refusal::PowerOff);
-    };
+    medium.power_return()?;
+    let len = medium.length()?;
     if copy.len() < len {
         return Err(Refusal::CopyShort(len));
     }
-    match medium.read(0, copy) {
-        Ok(_) => Ok(len),
-        Err(_) => Err(Refusal::PowerOff),
+    medium.read(0, copy)?;
+    Ok(len)
+}
+
+// The refusal for a medium's fault once the live bytes are copied.
+fn lost(fault: Fault) -> Refusal
+    ensures { result ≡ lost_by fault }
+{
+    match fault {
+        Fault::Off => Refusal::PowerLost,
+        Fault::Full => Refusal::Full,
     }
 }
 
@@ -35,13 +39,7 @@ fn copy_live<M: Medium>(medium: &mut M, copy: &mut [u8]) -> Result<usize, Refusa
 fn put_in_place<M: Medium>(medium: &mut M, bytes: &[u8]) -> Result<(), Refusal>
     ensures { PutInPlace bytes.now (M.Medium.state medium.old) result (M.Medium.state medium.new) }
 {
-    if medium.capacity() < bytes.len() {
-        return Err(Refusal::Full);
-    }
-    match replace(medium, bytes) {
-        Ok(()) => Ok(()),
-        Err(_) => Err(Refusal::PowerLost),
-    }
+    replace(medium, &Bytes { bytes }, &mut ()).map_err(lost)
 }
 
 // Makes the good bytes, which are so many, all the live ones, and durable.
@@ -50,14 +48,11 @@ fn mend<M: Medium>(medium: &mut M, live: &[u8], good: usize) -> Result<(), Refus
     ensures { MendedLive live.now (M.Medium.state medium.old) result (M.Medium.state medium.new) }
 {
     if live.is_empty() {
-        return put_in_place(medium, &HEADER);
-    }
-    if good < live.len() {
-        return put_in_place(medium, &live[0..good]);
-    }
-    match medium.sync() {
-        Ok(()) => Ok(()),
-        Err(_) => Err(Refusal::PowerLost),
+        put_in_place(medium, &HEADER)
+    } else if good < live.len() {
+        put_in_place(medium, &live[..good])
+    } else {
+        medium.sync().map_err(lost)
     }
 }
 

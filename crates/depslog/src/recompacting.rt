@@ -4,8 +4,9 @@ ghost use Rattle.depslog.specs.State.{state_of};
 ghost use Rattle.depslog.specs.Recompacting.{RecompactedLog};
 
 use super::log::Log;
-use medium::{Fault, Medium};
-use rewriting::recompact;
+use super::recompaction::Recompacted;
+use super::replacing::replace;
+use medium::Medium;
 use std::mem::swap;
 use terms::Refusal;
 
@@ -17,16 +18,13 @@ impl<M: Medium> Log<M> {
         if !self.open {
             return Err(Refusal::Closed);
         }
-        match recompact(&mut self.medium, &self.table, &mut self.spare) {
+        let image = Recompacted { from: &self.table };
+        match replace(&mut self.medium, &image, &mut self.spare) {
             Ok(()) => {
                 swap(&mut self.table, &mut self.spare);
                 Ok(())
             }
-            Err(Fault::Full) => Err(Refusal::Full),
-            Err(Fault::Off) => {
-                self.open = false;
-                Err(Refusal::PowerOff)
-            }
+            Err(fault) => Err(self.refused(fault)),
         }
     }
 }

@@ -1,18 +1,22 @@
 -- Filling a table, record by record. Assumes nothing.
-use Rattle.std.proofs.Common.{◌≡◌, ℕ, suc, ◌+◌, ◌-◌, ◌<◌, Bool, true, false, cond, not, eqb, List, [], ◌∷◌, length, drop, Some, None, Ok, Err, Option, Result, sym, refl, ap, ◌∙◌, arith}
+use Rattle.std.proofs.Common.{◌≡◌, ℕ, suc, ◌+◌, ◌-◌, ◌<◌, ◌≤◌, Bool, true, false, cond, not, ◌&&◌, eqb, leb, ltb, inl, inr, List, [], ◌∷◌, length, drop, Some, None, Ok, Err, Option, Result, sym, refl, ap, ◌∙◌, arith}
 use Rattle.std.proofs.lemmas.List.{length_push}
-use Rattle.std.proofs.lemmas.Bool.{cond-true, cond-false, not-true, not-false, true≢false}
+use Rattle.std.proofs.lemmas.Bool.{cond-true, cond-false, not-true, not-false, true≢false, and_left, and_right, or_left, or_right, or_from, lt-ltb, le-ltb, lt-leb, le-leb, cases_lt}
 use Rattle.terms.specs.declared.At.{At}
 use Rattle.terms.specs.declared.Refusal.{Refusal}
 use Rattle.terms.specs.declared.Refusal.TheVariants.{NoHeader, OverLimit}
+use Rattle.terms.specs.Lists.{is_in}
+use Rattle.terms.specs.Names.{holds_zero, is_name}
 use Rattle.image.specs.declared.cause.Cause.{Cause}
 use Rattle.image.specs.declared.filled.Filled.{Filled}
 use Rattle.image.specs.declared.table.DepsTable.{DepsTable}
 use Rattle.image.specs.Bytes.{Record, path, deps, next_id}
 use Rattle.image.specs.Reading.{Reading, good, bad, end, read_front, next_offset, read_at}
 use Rattle.image.specs.Tables.{Table, bare, learn}
-use Rattle.image.specs.Learning.{view}
+use Rattle.image.specs.Learning.{view, path_learned}
 use Rattle.image.specs.Scans.{Scan, found, stopped, scan, is_over, first_over, fill_from, fill_by, has_header, scanned, filled}
+use Rattle.image.proofs.Naming.{is_name_lem}
+use Rattle.image.proofs.Learned.{path-refused, path-full, path-taken}
 
 -- One step of the scan -----------------------------------------------------------------------------------------------------
 
@@ -75,9 +79,45 @@ pub record Taken (t : Table) (r : Record) (taken : Bool) (u : Table) : Type 0 wh
   pub limit : taken ≡ not (is_over (length t.names) r)
   pub after : u ≡ cond taken (learn t r) t
 
+-- the same, where the answer and the table go on under other names
+pub taken_as : (t : Table) (r : Record) (taken b : Bool) (u v : DepsTable) → taken ≡ b → u ≡ v → Taken t r b (view v) → Taken t r taken (view u)
+taken_as t r taken b u v e f k =
+    record { limit = e ∙ k.limit; after = ap view f ∙ k.after ∙ ap (λ (x : Bool). cond x (learn t r) t) (sym e) }
+
 -- told by a call whose answer and table go on under other names
 pub taken_by : (t : Table) (r : Record) (taken b : Bool) (u v : DepsTable) → taken ≡ b → u ≡ v → b ≡ not (is_over (length t.names) r) → view v ≡ cond b (learn t r) t → Taken t r taken (view u)
 taken_by t r taken b u v e f l a = record { limit = e ∙ l; after = ap view f ∙ a ∙ ap (λ (x : Bool). cond x (learn t r) t) (sym e) }
+
+-- a name that was read is learned where it is not over a limit
+was_refused : (t : Table) (r : Record) (b : Bool) (u : Table) → ◌≡◌ {A = Bool × Table} (b, u) (false, t) → is_over (length t.names) r ≡ true → Taken t r b u
+was_refused t r b u e o =
+    let f : b ≡ false = ap (λ (p : Bool × Table). p.0) e in
+    record { limit = f ∙ sym (ap not o); after = ap (λ (p : Bool × Table). p.1) e ∙ ap (λ (c : Bool). cond c (learn t r) t) (sym f) }
+
+was_taken : (t : Table) (r : Record) (b : Bool) (u : Table) → ◌≡◌ {A = Bool × Table} (b, u) (true, learn t r) → is_over (length t.names) r ≡ false → Taken t r b u
+was_taken t r b u e o =
+    let f : b ≡ true = ap (λ (p : Bool × Table). p.0) e in
+    record { limit = f ∙ sym (ap not o); after = ap (λ (p : Bool × Table). p.1) e ∙ ap (λ (c : Bool). cond c (learn t r) t) (sym f) }
+
+pub path-taken-by : (t : Table) (name : List ℕ) (b : Bool) (u : Table) → (1 ≤ length name) × (holds_zero name ≡ false) × (is_in name t.names ≡ false) →
+    (b, u) ≡ path_learned t name → Taken t (path name) b u
+path-taken-by t name b u k e =
+    let l : ℕ = length name in
+    let n : ℕ = length t.names in
+    elim (cases_lt 120 l) [
+      | inl h ↦
+          let i : is_name name ≡ false = and_left (leb 1 l && leb l 120) (not (holds_zero name)) (and_right (leb 1 l) (leb l 120) (lt-leb l 120 h)) in
+          was_refused t (path name) b u
+          (e ∙ sym (path-refused t name (and_left (is_name name && not (is_in name t.names)) (ltb n 256) (and_left (is_name name) (not (is_in name t.names)) i))))
+          (or_left (ltb 120 l) (leb 256 n) (lt-ltb 120 l h))
+      | inr h ↦
+          elim (cases_lt n 256) [
+            | inl m ↦
+                was_taken t (path name) b u (e ∙ sym (path-taken t name (is_name_lem name k.0 h k.1) k.2 m))
+                (or_from (ltb 120 l) (leb 256 n) (le-ltb 120 l h) (lt-leb 256 n m))
+            | inr m ↦ was_refused t (path name) b u (e ∙ sym (path-full t name m)) (or_right (ltb 120 l) (leb 256 n) (le-leb 256 n m))
+          ]
+    ]
 
 abbrev Answer : Type 0
 Answer = Result Filled Refusal × Table

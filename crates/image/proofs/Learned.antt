@@ -1,8 +1,7 @@
 -- What a table keeps as it learns. Assumes nothing.
-use Rattle.std.proofs.Common.{◌≡◌, ℕ, ◌+◌, ◌^◌, ◌<◌, ◌≤◌, Bool, true, false, cond, not, ◌&&◌, ltb, leb, List, [], ◌∷◌, map, length, Some, None, vec_items, vec_len, Option, sym, refl, ap, ◌∙◌, arith}
-use Rattle.std.specs.Option.{option_map}
+use Rattle.std.proofs.Common.{◌≡◌, ℕ, ◌+◌, ◌^◌, ◌<◌, ◌≤◌, Bool, true, false, cond, not, ◌&&◌, ltb, leb, List, [], ◌∷◌, length, Some, None, vec_items, vec_len, Option, sym, refl, ap, ◌∙◌, arith}
 use Rattle.std.specs.Str.{bytes_eq}
-use Rattle.std.proofs.lemmas.List.{length-map, length-take-le, map_push}
+use Rattle.std.proofs.lemmas.List.{length-map, length-take-le}
 use Rattle.std.proofs.lemmas.Bool.{and_from, and_left, and_right, and_parts, or_parts, not-true, not_from_true, not_from_false, lt-ltb, le-ltb, le-leb, ltb-true, cond-true, cond-false}
 use Rattle.terms.specs.Lists.{every, is_in, ◌▷◌}
 use Rattle.image.specs.declared.entry.DepsEntry.{DepsEntry}
@@ -12,7 +11,7 @@ use Rattle.terms.specs.Names.{is_name}
 use Rattle.image.specs.Bytes.{path}
 use Rattle.image.specs.Tables.{Entry, Table, learn}
 use Rattle.image.specs.Kept.{distinct, fits_entry, Kept}
-use Rattle.image.specs.View.{text, entry_of}
+use Rattle.image.specs.View.{text, entry_of, name_in, entry_in}
 use Rattle.image.specs.Learning.{view, takes_path, path_learned}
 use Rattle.image.proofs.Naming.{all_named}
 use Rattle.image.proofs.Tests.{every_more, some_push, other_way}
@@ -34,7 +33,7 @@ fits_more n (Some e) h =
     (every_more (λ id. ltb id n) (λ id. ltb id (n + 1)) (λ id l. lt-ltb id (n + 1) (omega (arith, ltb-true id n l))) e.inputs p.1)
 
 pub entry-short : (e : DepsEntry) → length (entry_of e).inputs ≤ 64
-entry-short e = omega (arith, length-take-le e.count e.ids (omega (arith, e.few, e.long)), e.few)
+entry-short e = omega (arith, length-take-le e.inputs.len e.inputs.slots (omega (arith, e.inputs.few, e.inputs.long)), e.inputs.few)
 
 -- an entry whose inputs are known fits
 pub entry-fits : (n : ℕ) (e : DepsEntry) → every (λ id. ltb id n) (entry_of e).inputs ≡ true → fits_entry n (Some (entry_of e)) ≡ true
@@ -42,11 +41,11 @@ entry-fits n e h =
     and_from (ltb e.mtime (2 ^ 64) && leb (length (entry_of e).inputs) 64) (every (λ id. ltb id n) (entry_of e).inputs)
     (and_from (ltb e.mtime (2 ^ 64)) (leb (length (entry_of e).inputs) 64) (lt-ltb e.mtime (2 ^ 64) e.timed) (le-leb (length (entry_of e).inputs) 64 (entry-short e))) h
 
-pub names-long : (t : DepsTable) → length (view t).names ≡ vec_len t.names
-names-long t = length-map (vec_items t.names) text ∙ sym t.names.ok.0
+pub names-long : (t : DepsTable) → length (view t).names ≡ vec_len t.rows
+names-long t = length-map (vec_items t.rows) name_in ∙ sym t.rows.ok.0
 
-pub entries-long : (t : DepsTable) → length (view t).entries ≡ vec_len t.entries
-entries-long t = length-map (vec_items t.entries) (option_map entry_of) ∙ sym t.entries.ok.0
+pub entries-long : (t : DepsTable) → length (view t).entries ≡ vec_len t.rows
+entries-long t = length-map (vec_items t.rows) entry_in ∙ sym t.rows.ok.0
 
 -- every table keeps it
 pub view-kept : (t : DepsTable) → Kept (view t)
@@ -54,15 +53,11 @@ view-kept t =
     let n = names-long t in
     record {
       few = omega (arith, n, t.few);
-      named = all_named (vec_items t.names);
+      named = all_named (vec_items t.rows);
       apart = t.apart;
-      paired = entries-long t ∙ t.paired ∙ sym n;
+      paired = entries-long t ∙ sym n;
       fitting = ap (λ (k : ℕ). every (fits_entry k) (view t).entries) n ∙ t.fitting;
     }
-
--- one more element, seen through a function
-pub map-pushed : {A B : Type 0} (f : A → B) (was after : List A) (x : A) → after ≡ was ▷ x → map f after ≡ map f was ▷ f x
-map-pushed f was after x e = ap (map f) e ∙ map_push f was x
 
 -- Answers ----------------------------------------------------------------------------------------------------------------
 

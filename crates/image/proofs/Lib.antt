@@ -1,7 +1,9 @@
 pub mod Loops
+pub mod Chunks
 pub mod Naming
 pub mod Tests
 pub mod Learned
+pub mod Rows
 pub mod Lookup
 pub mod Readings
 pub mod Told

@@ -1,12 +1,15 @@
 -- Looking a name up. Assumes nothing.
-use Rattle.std.proofs.Common.{◌≡◌, ℕ, ◌+◌, ◌<◌, Bool, true, false, List, [], map, length, get_or, drop, Some, Decides, sym, refl, ap, ◌∙◌, inl, inr}
+use lib.Pointwise.{pointwise}
+use Rattle.std.proofs.Common.{◌≡◌, ℕ, ◌+◌, ◌<◌, Bool, true, false, cond, eqb, List, [], ◌∷◌, map, length, get_or, drop, Some, Option, Decides, sym, refl, ap, ◌∙◌, inl, inr}
+use Rattle.std.specs.List.{position_from}
 use Rattle.std.specs.Str.{bytes_eq}
-use Rattle.std.proofs.lemmas.Slice.Eq.{bytes_eq-Decides}
-use Rattle.std.proofs.lemmas.List.{at_drop_more, get_or-map}
+use Rattle.std.proofs.lemmas.Slice.Eq.{bytes_eq-Decides, slice_eq-Decides}
+use Rattle.std.proofs.lemmas.List.{at_drop_more}
 use Rattle.std.proofs.lemmas.Bool.{cases_Bool, both_ways, cond-true, cond-false}
+use Rattle.std.proofs.lemmas.Bool.Decides.{Decides-eqb}
 use Rattle.terms.specs.Lists.{place_from}
-use Rattle.image.specs.declared.name.Name.{Name}
-use Rattle.image.specs.View.{text}
+use Rattle.image.specs.declared.row.Row.{Row}
+use Rattle.image.specs.View.{name_in}
 
 -- a test that decides whether two names are equal is the comparison of their bytes
 pub decided : (r : Bool) (xs ys : List ℕ) → Decides r (xs ≡ ys) → bytes_eq xs ys ≡ r
@@ -17,19 +20,20 @@ decided false xs ys d =
 turned : (r : Bool) (xs ys : List ℕ) → Decides r (xs ≡ ys) → Decides r (ys ≡ xs)
 turned r xs ys d = (λ t. sym (d.0 t), λ e. d.1 (sym e))
 
--- the name at an index
-pub text_at : (names items : List Name) (i : ℕ) (n : Name) → items ≡ names → i < length items → n ≡ get_or items i n → get_or (map text names) i [] ≡ text n
-text_at names items i n e h g =
-    ap (λ (ns : List Name). get_or (map text ns) i []) (sym e) ∙ get_or-map text items i n [] h ∙ ap text (sym g)
-
 pub place_here : (i : ℕ) (p : List ℕ → Bool) (ns : List (List ℕ)) → i < length ns → p (get_or ns i []) ≡ true → place_from i p (drop i ns) ≡ Some i
 place_here i p ns h e = at_drop_more (place_from i p) ns i [] h ∙ cond-true (p (get_or ns i [])) (Some i) (place_from (i + 1) p (drop (i + 1) ns)) e
 
 pub place-past : (i : ℕ) (p : List ℕ → Bool) (ns : List (List ℕ)) → i < length ns → p (get_or ns i []) ≡ false → place_from i p (drop i ns) ≡ place_from (i + 1) p (drop (i + 1) ns)
 place-past i p ns h e = at_drop_more (place_from i p) ns i [] h ∙ cond-false (p (get_or ns i [])) (Some i) (place_from (i + 1) p (drop (i + 1) ns)) e
 
--- whether the name at an index is the one that is asked for
-pub asked_at : (names items : List Name) (i : ℕ) (n : Name) (bytes name : List ℕ) (r : Bool) → items ≡ names → i < length items → n ≡ get_or items i n → bytes ≡ text n →
-    Decides r (bytes ≡ name) → bytes_eq name (get_or (map text names) i []) ≡ r
-asked_at names items i n bytes name r e h g b d =
-    ap (bytes_eq name) (text_at names items i n e h g ∙ sym b) ∙ decided r name bytes (turned r bytes name d)
+-- The rows ---------------------------------------------------------------------------------------------------------------
+
+asked : (xs ys : List ℕ) → pointwise eqb xs ys ≡ bytes_eq ys xs
+asked xs ys = sym (decided (pointwise eqb xs ys) ys xs (turned (pointwise eqb xs ys) xs ys (slice_eq-Decides Decides-eqb xs ys (pointwise eqb xs ys) refl)))
+
+-- the place of a row by its name is that of the name
+pub place-row : (name : List ℕ) (i : ℕ) (rs : List Row) → position_from (λ r. pointwise eqb (name_in r) name) i rs ≡ place_from i (bytes_eq name) (map name_in rs)
+place-row name i [] = refl
+place-row name i (r ∷ rs) =
+    ap (λ (b : Bool). cond b (Some i) (position_from (λ q. pointwise eqb (name_in q) name) (i + 1) rs)) (asked (name_in r) name) ∙
+    ap (λ (o : Option ℕ). cond (bytes_eq name (name_in r)) (Some i) o) (place-row name (i + 1) rs)

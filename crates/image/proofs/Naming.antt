@@ -1,11 +1,10 @@
 -- Names made of bytes. Assumes nothing.
-use Rattle.std.proofs.Common.{◌≡◌, ℕ, ◌≤◌, true, false, not, ◌&&◌, leb, List, [], ◌∷◌, ◌++◌, map, length, take, refl, ap, ◌∙◌, arith}
-use Rattle.std.proofs.lemmas.List.{take_at}
+use Rattle.std.proofs.Common.{◌≡◌, ℕ, ◌≤◌, true, false, not, ◌&&◌, leb, List, [], ◌∷◌, map, length, refl}
 use Rattle.std.proofs.lemmas.Bool.{and_from, and_parts, le-leb, leb-true, not-true, not_from_false}
 use Rattle.terms.specs.Lists.{every}
 use Rattle.terms.specs.Names.{holds_zero, is_name}
-use Rattle.image.specs.declared.name.Name.{Name}
-use Rattle.image.specs.View.{text}
+use Rattle.image.specs.declared.row.Row.{Row}
+use Rattle.image.specs.View.{name_in}
 
 pub is_name_lem : (xs : List ℕ) → 1 ≤ length xs → length xs ≤ 120 → holds_zero xs ≡ false → is_name xs ≡ true
 is_name_lem xs p q z =
@@ -24,10 +23,7 @@ name-parts xs e =
     let q = and_parts (leb 1 (length xs)) (leb (length xs) 120) p.0 in
     record { some = leb-true 1 (length xs) q.0; short = leb-true (length xs) 120 q.1; clear = not-true (holds_zero xs) p.1 }
 
-pub front-is : (xs ys zs : List ℕ) → zs ≡ xs ++ ys → take (length xs) zs ≡ xs
-front-is xs ys zs e = ap (take (length xs)) e ∙ take_at xs ys (length xs) (omega arith)
-
 -- the names of a table are names
-pub all_named : (ns : List Name) → every is_name (map text ns) ≡ true
+pub all_named : (rs : List Row) → every is_name (map name_in rs) ≡ true
 all_named [] = refl
-all_named (n ∷ ns) = and_from (is_name (text n)) (every is_name (map text ns)) n.named (all_named ns)
+all_named (r ∷ rs) = and_from (is_name (name_in r)) (every is_name (map name_in rs)) r.name.named (all_named rs)

@@ -1,23 +1,15 @@
 -- The cases of a reading, by what the tests of the reader found. Assumes nothing.
-use Rattle.std.proofs.Common.{◌≡◌, ℕ, ◌+◌, ◌-◌, ◌/◌, ◌%◌, ◌<◌, ◌≤◌, Bool, true, false, cond, not, ◌||◌, eqb, ltb, List, [], ◌∷◌, length, take, drop, is_some, sym, refl, ap, ◌∙◌, inl, inr, arith}
+use Rattle.std.proofs.Common.{◌≡◌, ℕ, ◌+◌, ◌-◌, ◌%◌, ◌<◌, ◌≤◌, Bool, true, false, cond, not, ◌||◌, eqb, ltb, List, [], ◌∷◌, length, take, drop, is_some, sym, refl, ap, ◌∙◌, inl, inr, arith}
 use Rattle.std.specs.Str.{bytes_eq}
 use Rattle.std.proofs.lemmas.Bool.{cond-true, cond-false, eq-eqb, eqb-true, lt-ltb, le-ltb, ltb-false, le-leb, lt-leb, or_parts, not-false, cases_lt, cases_Bool, false≢true, true≢false}
-use Rattle.terms.specs.Lists.{empty, every, is_in, place_in}
-use Rattle.image.specs.declared.cause.Cause.TheVariants.{NoWord, TooLong, BadSize, BadChecksum, BadName, UnknownId}
+use Rattle.terms.specs.Lists.{empty, is_in, place_in}
+use Rattle.image.specs.declared.cause.Cause.TheVariants.{NoWord, TooLong, BadSize, BadChecksum, BadName}
 use Rattle.terms.specs.Names.{holds_zero}
-use Rattle.image.specs.Bytes.{path, deps, checksum}
-use Rattle.image.specs.Reading.{Reading, good, bad, end, word_at, long_at, words_of, unpadded, read_name, read_path, read_deps, is_known, is_deps, size_of, odd_size, read_body, read_front, next_offset, read_at}
+use Rattle.image.specs.Bytes.{path, checksum}
+use Rattle.image.specs.Reading.{Reading, good, bad, end, word_at, unpadded, read_name, read_path, read_deps, is_deps, size_of, odd_size, read_body, read_front, next_offset, read_at}
 use Rattle.image.specs.Shown.{Leads}
 use Rattle.image.proofs.Loops.{word_at-drop}
 use Rattle.image.proofs.Tests.{place_in_lem}
-
--- a part from the start, as the code writes it
-pub part-is : (n : ℕ) (xs : List ℕ) → take (n - 0) xs ≡ take n xs
-part-is n xs = ap (λ (k : ℕ). take k xs) (omega arith)
-
-pub name-part : (body : List ℕ) (n : ℕ) → take n (take (length body - 4 - 0) body) ≡ unpadded (take (length body - 4 - 0) body) →
-    take (n - 0) (take (length body - 4 - 0) body) ≡ unpadded (take (length body - 4) body)
-name-part body n e = part-is n (take (length body - 4 - 0) body) ∙ e ∙ ap unpadded (part-is (length body - 4) body)
 
 -- whether a name is known, by its place
 pub known_by : (name : List ℕ) (known : List (List ℕ)) (b : Bool) → b ≡ is_some (place_in name known) → is_in name known ≡ b
@@ -39,31 +31,6 @@ pub name-good : (known : List (List ℕ)) (body name : List ℕ) → name ≡ un
 name-good known body name e w h = sym (read_name_lem known body name e w ∙ cond-false (holds_zero name || is_in name known) (bad BadName) (good (path name)) h)
 
 -- Deps -------------------------------------------------------------------------------------------------------------------
-
--- all the words of some bytes
-abbrev ids_of : List ℕ → List ℕ
-ids_of xs = words_of (length xs / 4) xs
-
-abbrev made : List (List ℕ) → ℕ → ℕ → List ℕ → Reading
-made known o m xs = cond (every (is_known known) (o ∷ ids_of xs)) (good (deps o m (ids_of xs))) (bad UnknownId)
-
-made-is : (known : List (List ℕ)) (body : List ℕ) (o m : ℕ) (xs : List ℕ) → o ≡ word_at body 0 → m ≡ long_at body 4 → xs ≡ drop 12 body → made known o m xs ≡ read_deps known body
-made-is known body o m xs eo em ex =
-    ap (λ (a : ℕ). made known a m xs) eo ∙ ap (λ (b : ℕ). made known (word_at body 0) b xs) em ∙ ap (made known (word_at body 0) (long_at body 4)) ex
-
-pub deps-unknown : (known : List (List ℕ)) (body : List ℕ) (o m : ℕ) (xs : List ℕ) → o ≡ word_at body 0 → m ≡ long_at body 4 → xs ≡ drop 12 body →
-    every (is_known known) (o ∷ ids_of xs) ≡ false → bad UnknownId ≡ read_deps known body
-deps-unknown known body o m xs eo em ex h =
-    sym (cond-false (every (is_known known) (o ∷ ids_of xs)) (good (deps o m (ids_of xs))) (bad UnknownId) h) ∙ made-is known body o m xs eo em ex
-
-pub deps-known : (known : List (List ℕ)) (body : List ℕ) (o m : ℕ) (xs : List ℕ) → o ≡ word_at body 0 → m ≡ long_at body 4 → xs ≡ drop 12 body →
-    every (is_known known) (o ∷ ids_of xs) ≡ true → good (deps o m (ids_of xs)) ≡ read_deps known body
-deps-known known body o m xs eo em ex h =
-    sym (cond-true (every (is_known known) (o ∷ ids_of xs)) (good (deps o m (ids_of xs))) (bad UnknownId) h) ∙ made-is known body o m xs eo em ex
-
--- the same test, where the names are counted
-pub counted : (known : List (List ℕ)) (n : ℕ) (xs : List ℕ) (b : Bool) → n ≡ length known → b ≡ every (λ id. ltb id n) xs → every (is_known known) xs ≡ b
-counted known n xs b e h = ap (λ (k : ℕ). every (λ id. ltb id k) xs) (sym e) ∙ sym h
 
 -- The word ---------------------------------------------------------------------------------------------------------------
 
@@ -89,26 +56,11 @@ body_even known w rest h = cond-false (ltb (length rest) (size_of w)) (bad TooLo
 pub body_odd : (known : List (List ℕ)) (w : ℕ) (rest : List ℕ) → size_of w ≤ length rest → odd_size w ≡ true → bad BadSize ≡ read_body known w rest
 body_odd known w rest h o = sym (body_even known w rest h ∙ cond-true (odd_size w) (bad BadSize) _ o)
 
-pub body_deps : (known : List (List ℕ)) (w : ℕ) (rest : List ℕ) → size_of w ≤ length rest → odd_size w ≡ false → 2147483648 ≤ w →
-    read_deps known (take (size_of w - 0) rest) ≡ read_body known w rest
-body_deps known w rest h o d =
-    ap (read_deps known) (part-is (size_of w) rest) ∙
-    sym (body_even known w rest h ∙ cond-false (odd_size w) (bad BadSize) _ o ∙ cond-true (is_deps w) _ (read_path known (take (size_of w) rest)) (le-leb 2147483648 w d))
-
-pub body_path : (known : List (List ℕ)) (w : ℕ) (rest : List ℕ) → size_of w ≤ length rest → odd_size w ≡ false → w < 2147483648 →
-    read_path known (take (size_of w - 0) rest) ≡ read_body known w rest
-body_path known w rest h o d =
-    ap (read_path known) (part-is (size_of w) rest) ∙
-    sym (body_even known w rest h ∙ cond-false (odd_size w) (bad BadSize) _ o ∙ cond-false (is_deps w) (read_deps known (take (size_of w) rest)) _ (lt-leb 2147483648 w d))
-
 -- The front --------------------------------------------------------------------------------------------------------------
 
 not-empty : (xs : List ℕ) → 0 < length xs → empty xs ≡ false
 not-empty [] h = absurd (omega arith)
 not-empty (x ∷ xs) h = refl
-
-pub front-short : (known : List (List ℕ)) (xs : List ℕ) → 0 < length xs → length xs < 4 → bad NoWord ≡ read_front known xs
-front-short known xs p h = sym (cond-false (empty xs) end _ (not-empty xs p) ∙ cond-true (ltb (length xs) 4) (bad NoWord) _ (lt-ltb (length xs) 4 h))
 
 pub front-word : (known : List (List ℕ)) (xs : List ℕ) → 4 ≤ length xs → read_front known xs ≡ read_body known (word_at xs 0) (drop 4 xs)
 front-word known xs h =

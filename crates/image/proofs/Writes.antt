@@ -1,34 +1,40 @@
 -- Writing piece by piece. Assumes nothing.
-use Rattle.std.proofs.Common.{◌≡◌, ℕ, ◌+◌, ◌-◌, ◌*◌, ◌/◌, ◌%◌, ◌<◌, ◌≤◌, leb, List, [], ◌∷◌, ◌++◌, length, take, drop, replicate, Ok, Err, Result, sym, refl, ap, ◌∙◌, arith}
+use Rattle.std.proofs.Common.{◌≡◌, ℕ, ◌+◌, ◌*◌, ◌/◌, ◌%◌, ◌<◌, ◌≤◌, leb, List, [], ◌∷◌, ◌++◌, length, get_or, take, drop, replicate, Ok, Err, Result, sym, refl, ap, ◌∙◌, arith}
 use native.Mathlib.Nat.{div-div-eq-div-mul}
 use borrow.Rule.Slice.PartMut.{put_mid}
-use Rattle.std.proofs.lemmas.List.{append_assoc, take_at, drop-drop, length-append, length-replicate, take-replicate, drop_at}
+use Rattle.std.proofs.lemmas.List.{append_assoc, take_at, take_more, drop-drop, length-append, length-drop, length-replicate, length-take-le, drop_at}
 use Rattle.std.proofs.lemmas.Bool.{cond-true, cond-false, le-leb, lt-leb}
 use Rattle.image.specs.declared.writer.TooShort.{TooShort}
 use Rattle.image.specs.Bytes.{path, deps, word, long, words, padding, padded, checksum, record_bytes}
-use Rattle.image.specs.Written.{overwritten, written}
+use Rattle.image.specs.Written.{written}
 
 -- the buffer begins with `front`, and its other bytes are the old ones
 abbrev pub Fronted : List ℕ → List ℕ → List ℕ → Type 0
 Fronted front old buf = buf ≡ front ++ drop (length front) old
 
-pub fronted-none : (old : List ℕ) → Fronted [] old old
-fronted-none old = refl
+-- a part at the buffer's beginning that was written over
+pub fronted_first : (old part piece : List ℕ) (k : ℕ) → part ≡ piece → k ≡ length piece → Fronted piece old (part ++ drop k old)
+fronted_first old part piece k e l = ap (λ (xs : List ℕ). xs ++ drop k old) e ∙ ap (λ (n : ℕ). piece ++ drop n old) l
 
-drop_past : (front rest : List ℕ) (n : ℕ) → drop (length front + n) (front ++ rest) ≡ drop n rest
-drop_past front rest n = sym (drop-drop n (length front) (front ++ rest)) ∙ ap (drop n) (drop_at front rest (length front) refl)
-
--- some bytes more behind the front
-pub fronted-more : (front old buf next bytes : List ℕ) (at : ℕ) → Fronted front old buf → at ≡ length front → next ≡ overwritten at bytes buf → Fronted (front ++ bytes) old next
-fronted-more front old buf next bytes at f a e =
+-- a part behind the front that was written over
+pub fronted-more : (front old buf part piece : List ℕ) (at k : ℕ) → Fronted front old buf → at ≡ length front → part ≡ piece → k ≡ length piece →
+    Fronted (front ++ piece) old (put_mid at k buf part)
+fronted-more front old buf part piece at k f a e l =
     let n : ℕ = length front in
     let t : take n buf ≡ front = ap (take n) f ∙ take_at front (drop n old) n refl in
-    let d : drop (n + length bytes) buf ≡ drop (length (front ++ bytes)) old =
-    ap (drop (n + length bytes)) f ∙ drop_past front (drop n old) (length bytes) ∙ drop-drop (length bytes) n old ∙ ap (λ (k : ℕ). drop k old) (sym (length-append front bytes)) in
-    e ∙ ap (λ (k : ℕ). overwritten k bytes buf) a ∙
-    ap (λ (xs : List ℕ). xs ++ (bytes ++ drop (n + length bytes) buf)) t ∙
-    ap (λ (ys : List ℕ). front ++ (bytes ++ ys)) d ∙
-    sym (append_assoc front bytes (drop (length (front ++ bytes)) old))
+    let d : drop k (drop n buf) ≡ drop (length (front ++ piece)) old =
+    ap (λ (xs : List ℕ). drop k (drop n xs)) f ∙ ap (drop k) (drop_at front (drop n old) n refl) ∙ drop-drop k n old ∙ ap (λ (m : ℕ). drop m old) (omega (arith, l, length-append front piece)) in
+    ap (λ (m : ℕ). put_mid m k buf part) a ∙
+    ap (λ (xs : List ℕ). xs ++ (part ++ drop k (drop n buf))) t ∙
+    ap (λ (ys : List ℕ). front ++ (part ++ ys)) d ∙
+    ap (λ (ys : List ℕ). front ++ (ys ++ drop (length (front ++ piece)) old)) e ∙
+    sym (append_assoc front piece (drop (length (front ++ piece)) old))
+
+pub length-fronted : (front old buf : List ℕ) → Fronted front old buf → length front ≤ length old → length buf ≡ length old
+length-fronted front old buf f h = omega (arith, ap length f, length-append front (drop (length front) old), length-drop (length front) old)
+
+pub length-part : (buf : List ℕ) (at k : ℕ) → at + k ≤ length buf → length (take k (drop at buf)) ≡ k
+length-part buf at k h = length-take-le k (drop at buf) (omega (arith, length-drop at buf))
 
 pub words_push : (ns : List ℕ) (n : ℕ) → words (ns ++ n ∷ []) ≡ words ns ++ word n
 words_push [] n = refl
@@ -50,46 +56,21 @@ long-is n =
 
 -- The calls ----------------------------------------------------------------------------------------------------------------
 
--- a part that was copied over
-pub copied : (at : ℕ) (buf bytes last : List ℕ) → last ≡ bytes → put_mid at (at + length bytes - at) buf last ≡ overwritten at bytes buf
-copied at buf bytes last e =
-    ap (put_mid at (at + length bytes - at) buf) e ∙
-    ap (λ (xs : List ℕ). take at buf ++ (bytes ++ xs)) (drop-drop (at + length bytes - at) at buf ∙ ap (λ (n : ℕ). drop n buf) (omega arith))
-
 pub too_short : (bytes old : List ℕ) (need : ℕ) → need ≡ length bytes → length old < need → (Err (record { need = need }), old) ≡ written bytes old
 too_short bytes old need e h =
     let F : ℕ → Result ℕ TooShort × List ℕ = λ n. (Err (record { need = n }), old) in
     ap F e ∙ sym (cond-false (leb (length bytes) (length old)) (Ok (length bytes), bytes ++ drop (length bytes) old) (F (length bytes)) (lt-leb (length bytes) (length old) (omega arith)))
 
--- `front` was written over the old bytes, and `at` is the place behind it
-pub record Wrote (front old buf : List ℕ) (at : ℕ) : Type 0 where
-  pub fronted : Fronted front old buf
-  pub place : at ≡ length front
-
-pub wrote_none : (old : List ℕ) → Wrote [] old old 0
-wrote_none old = record { fronted = refl; place = refl }
-
--- a piece more
-pub wrote_more : (front old buf next bytes piece : List ℕ) (at r : ℕ) → Wrote front old buf at → bytes ≡ piece → next ≡ overwritten at bytes buf → r ≡ at + length bytes → Wrote (front ++ piece) old next r
-wrote_more front old buf next bytes piece at r w b e n = record {
-  fronted = fronted-more front old buf next piece at w.fronted w.place (e ∙ ap (λ (xs : List ℕ). overwritten at xs buf) b);
-  place = n ∙ ap (λ (k : ℕ). k + length bytes) w.place ∙ ap (λ (xs : List ℕ). length front + length xs) b ∙ sym (length-append front piece);
-}
-
 -- all of it is written
-pub all-written : (front bytes old buf : List ℕ) (n : ℕ) → Wrote front old buf n → front ≡ bytes → length front ≤ length old → (Ok n, buf) ≡ written bytes old
-all-written front bytes old buf n w b h =
+pub all-written : (bytes old buf : List ℕ) (n : ℕ) → Fronted bytes old buf → n ≡ length bytes → n ≤ length old → (Ok n, buf) ≡ written bytes old
+all-written bytes old buf n f e h =
     let F : ℕ → List ℕ → Result ℕ TooShort × List ℕ = λ k xs. (Ok k, xs) in
-    let done : List ℕ = front ++ drop (length front) old in
-    ap (λ (k : ℕ). F k buf) w.place ∙ ap (F (length front)) w.fronted ∙
-    sym (cond-true (leb (length front) (length old)) (F (length front) done) (Err (record { need = length front }), old) (le-leb (length front) (length old) h)) ∙
-    ap (λ (xs : List ℕ). written xs old) b
+    let done : List ℕ = bytes ++ drop (length bytes) old in
+    ap (λ (k : ℕ). F k buf) e ∙ ap (F (length bytes)) f ∙
+    sym (cond-true (leb (length bytes) (length old)) (F (length bytes) done) (Err (record { need = length bytes }), old) (le-leb (length bytes) (length old) (omega arith)))
 
 pub length-padded : (name : List ℕ) → length (padded name) ≡ length name + padding (length name)
 length-padded name = length-append name (replicate (padding (length name)) 0) ∙ ap (λ (n : ℕ). length name + n) (length-replicate (padding (length name)) 0)
-
-pub zeros_are : (n : ℕ) → n < 4 → take {A = ℕ} (n - 0) (0 ∷ 0 ∷ 0 ∷ []) ≡ replicate n 0
-zeros_are n h = ap (λ (k : ℕ). take {A = ℕ} k (0 ∷ 0 ∷ 0 ∷ [])) (omega arith) ∙ take-replicate {X = ℕ} n 3 0 (omega arith)
 
 -- the pieces of a path record, each in its turn
 pub path_pieces : (id : ℕ) (name zeros : List ℕ) (w c : ℕ) → zeros ≡ replicate (padding (length name)) 0 → w ≡ length (padded name) + 4 → c ≡ checksum id →
@@ -104,3 +85,17 @@ length-path id name = omega (arith, length-append (padded name) (word (checksum 
 
 pub length-deps : (output mtime : ℕ) (inputs : List ℕ) → length (record_bytes 0 (deps output mtime inputs)) ≡ 4 + (12 + 4 * length inputs)
 length-deps output mtime inputs = omega (arith, length-words inputs)
+
+-- what stands before the ids of a deps record
+abbrev pub deps-head : ℕ → ℕ → ℕ → List ℕ
+deps-head w output mtime = (word w ++ word output) ++ long mtime
+
+pub length-head : (w output mtime : ℕ) (ids : List ℕ) (k : ℕ) → k ≤ length ids → length (deps-head w output mtime ++ words (take k ids)) ≡ 16 + 4 * k
+length-head w output mtime ids k h = omega (arith, length-words (take k ids), length-take-le k ids h)
+
+-- an id more
+pub words-more : (front ids : List ℕ) (k : ℕ) (piece : List ℕ) → k < length ids → piece ≡ word (get_or ids k 0) →
+    (front ++ words (take k ids)) ++ piece ≡ front ++ words (take (k + 1) ids)
+words-more front ids k piece h e =
+    ap (λ (xs : List ℕ). (front ++ words (take k ids)) ++ xs) e ∙ append_assoc front (words (take k ids)) (word (get_or ids k 0)) ∙
+    ap (λ (xs : List ℕ). front ++ xs) (sym (ap words (take_more ids k 0 h) ∙ words_push (take k ids) (get_or ids k 0)))

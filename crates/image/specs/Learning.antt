@@ -9,7 +9,7 @@ use Rattle.image.specs.Tables.{Entry, Table, learn}
 use Rattle.image.specs.View.{table_of}
 
 abbrev pub view : DepsTable → Table
-view t = table_of (vec_items t.names) (vec_items t.entries)
+view t = table_of (vec_items t.rows)
 
 -- whether a table takes these bytes as the next path: they are a name, which is not known yet, and fewer than 256 are known
 abbrev pub takes_path : Table → List ℕ → Bool

@@ -1,10 +1,6 @@
 -- What a writer answers and leaves in the caller's buffer. Assumes nothing.
-use Rattle.std.specs.Prelude.{ℕ, ◌+◌, cond, List, ◌++◌, length, take, drop, Ok, Err, Result, nat_le}
+use Rattle.std.specs.Prelude.{ℕ, cond, List, ◌++◌, length, drop, Ok, Err, Result, nat_le}
 use Rattle.image.specs.declared.writer.TooShort.{TooShort}
-
--- some bytes over those from a place on
-abbrev pub overwritten : ℕ → List ℕ → List ℕ → List ℕ
-overwritten at bytes old = take at old ++ (bytes ++ drop (at + length bytes) old)
 
 -- The bytes stand at the buffer's front, its other bytes stay, and the answer is their number; or the buffer is too short and stays as it is.
 abbrev pub written : List ℕ → List ℕ → Result ℕ TooShort × List ℕ

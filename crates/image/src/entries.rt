@@ -1,9 +1,10 @@
 // Making an entry, and what it holds.
-ghost use Rattle.std.specs.Prelude.{◌≡◌, ◌≤◌, [], length, if◌then◌else◌, nat_lt};
+ghost use Rattle.std.specs.Prelude.{◌≡◌, ◌≤◌, ⊤, [], length, Ok, Err, if◌then◌else◌, nat_lt};
 ghost use Rattle.terms.specs.Lists.{◌▷◌};
 ghost use Rattle.image.specs.View.{entry_of};
 
 use super::entry::DepsEntry;
+use terms::{Few, NoRoom};
 
 impl DepsEntry {
     // An entry with no inputs yet.
@@ -12,22 +13,16 @@ impl DepsEntry {
     {
         DepsEntry {
             mtime,
-            count: 0,
-            ids: [0; 64],
+            inputs: Few::new(0),
         }
     }
 
-    // One input more; false, and nothing changed, where there are 64.
-    pub fn push(&mut self, id: u32) -> bool
-        ensures room { result ≡ nat_lt (length (entry_of self.old).inputs) 64 }
-        ensures after { entry_of self.new ≡ (if result then (record { mtime = (entry_of self.old).mtime; inputs = (entry_of self.old).inputs ▷ id }) else entry_of self.old) }
+    // One input more; an error, and nothing changed, where there are 64.
+    pub fn push(&mut self, id: u32) -> Result<(), NoRoom>
+        ensures room { result ≡ (if nat_lt (length (entry_of self.old).inputs) 64 then Ok tt else Err (record {})) }
+        ensures after { entry_of self.new ≡ (if nat_lt (length (entry_of self.old).inputs) 64 then (record { mtime = (entry_of self.old).mtime; inputs = (entry_of self.old).inputs ▷ id }) else entry_of self.old) }
     {
-        if self.count >= 64 {
-            return false;
-        }
-        self.ids[self.count] = id;
-        self.count += 1;
-        true
+        self.inputs.push(id)
     }
 
     pub fn mtime(&self) -> u64
@@ -40,6 +35,6 @@ impl DepsEntry {
         ensures ids { result.now ≡ (entry_of self.now).inputs }
         ensures few { length result.now ≤ 64 }
     {
-        &self.ids[0..self.count]
+        self.inputs.as_slice()
     }
 }

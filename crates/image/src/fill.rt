@@ -1,5 +1,5 @@
 // Filling a table from an image.
-ghost use Rattle.std.specs.Prelude.{◌≡◌, ◌≤◌, true, false, not, leb, ◌∷◌, length, if◌then◌else◌, Some, None};
+ghost use Rattle.std.specs.Prelude.{◌≡◌, ◌≤◌, true, not, ◌∷◌, length, if◌then◌else◌, Some, None, nat_le};
 ghost use Rattle.std.specs.Option.{option_map};
 ghost use Rattle.terms.specs.Lists.{every, is_in};
 ghost use Rattle.terms.specs.Names.{holds_zero};
@@ -19,65 +19,37 @@ use super::name::Name;
 use super::reader::read_record;
 use super::records::{Deps, Read};
 use super::table::DepsTable;
-use super::words::word_at;
 use super::writer::HEADER;
 use terms::{At, Refusal};
 
 impl<'a> Deps<'a> {
     // The record's mtime and ids as an entry, where it has at most 64 inputs.
     pub fn entry(&self) -> Option<DepsEntry>
-        ensures { option_map entry_of result ≡ (if leb (length (ids_of self.now)) 64 then Some (record { mtime = self.now.mtime; inputs = ids_of self.now }) else None) }
+        ensures { option_map entry_of result ≡ (if nat_le (length (ids_of self.now)) 64 then Some (record { mtime = self.now.mtime; inputs = ids_of self.now }) else None) }
     {
-        let count = self.ids.len() / 4;
-        if count > 64 {
-            return None;
-        }
+        let (words, _) = self.ids.as_chunks::<4>();
         let mut gathered = DepsEntry::new(self.mtime);
-        for k in 0..count {
-            gathered.push(word_at(self.ids, 4 * k));
+        for id in words {
+            gathered.push(u32::from_le_bytes(*id)).ok()?;
         }
         Some(gathered)
     }
 }
 
 impl DepsTable {
-    // Learns a name that was read; false, and nothing changed, where it is over a limit.
-    fn take_path(&mut self, name: &[u8]) -> bool
-        requires some { 1 ≤ length name.now }
-        requires clear { holds_zero name.now ≡ false }
-        requires unknown { is_in name.now (view self.old).names ≡ false }
-        ensures limit { result ≡ not (is_over (length (view self.old).names) (path name.now)) }
-        ensures after { view self.new ≡ (if result then learn (view self.old) (path name.now) else view self.old) }
-    {
-        if self.path_count() >= 256 {
-            return false;
-        }
-        match Name::new(name) {
-            None => false,
-            Some(name) => {
-                self.add_path(name);
-                true
-            }
-        }
-    }
-
-    // Learns a deps record that was read; false, and nothing changed, where it is over a limit.
-    fn take_deps(&mut self, read: Deps) -> bool
+    // Learns a deps record that was read; false, and nothing changed, where it has more than 64 inputs.
+    // A bool, as learn_path answers: the reader takes both alike.
+    fn learn_read(&mut self, read: Deps) -> bool
         requires { every (is_known (view self.old).names) (read.output ∷ ids_of read) ≡ true }
         ensures limit { result ≡ not (is_over (length (view self.old).names) (deps read.entry.output read.entry.mtime (ids_of read.entry))) }
         ensures after { view self.new ≡ (if result then learn (view self.old) (deps read.entry.output read.entry.mtime (ids_of read.entry)) else view self.old) }
     {
         match read.entry() {
+            Some(entry) => self.learn_deps(read.output as usize, &entry),
             None => false,
-            Some(entry) => {
-                self.add_deps(read.output as usize, entry);
-                true
-            }
         }
     }
-}
 
-impl DepsTable {
     // Reads the records behind the header into a bare table, up to the first bad one or the end, or to the first over a limit.
     fn read_all(&mut self, image: &[u8]) -> Result<Filled, Refusal>
         requires bare { view self.old ≡ bare }
@@ -86,28 +58,18 @@ impl DepsTable {
     {
         let mut at = 16;
         let mut records = 0;
-        'reading: loop {
+        let tail = 'reading: loop {
             let (read, next) = read_record(image, at, self);
             let learned = match read {
-                Read::Path(name) => self.take_path(name.value),
-                Read::Deps(deps) => self.take_deps(deps.value),
+                Read::Path(name) => self.learn_path(name.value),
+                Read::Deps(deps) => self.learn_read(deps.value),
                 Read::Bad(cause) => {
-                    return Ok(Filled {
-                        records,
-                        length: at,
-                        tail: Some(At {
-                            offset: at,
-                            value: cause,
-                        }),
+                    break Some(At {
+                        offset: at,
+                        value: cause,
                     });
                 }
-                Read::End => {
-                    return Ok(Filled {
-                        records,
-                        length: at,
-                        tail: None,
-                    });
-                }
+                Read::End => break None,
             };
             if !learned {
                 self.clear();
@@ -115,11 +77,14 @@ impl DepsTable {
             }
             at = next;
             records += 1;
-        }
+        };
+        Ok(Filled {
+            records,
+            length: at,
+            tail,
+        })
     }
-}
 
-impl DepsTable {
     // Fills the table with what the good records of an image tell. No bytes count as the bare header. A refusal leaves the table bare.
     pub fn fill(&mut self, image: &[u8]) -> Result<Filled, Refusal>
         ensures value { (result, view self.new) ≡ filled image.now }

@@ -10,6 +10,7 @@ mod name;
 mod names;
 mod reader;
 mod records;
+mod row;
 mod table;
 mod tables;
 mod words;

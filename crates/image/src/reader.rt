@@ -8,7 +8,7 @@ ghost use Rattle.image.specs.Laws.{ReadsBack, ReadsTorn};
 use super::cause::Cause;
 use super::records::{Deps, Read};
 use super::table::DepsTable;
-use super::words::{all_below, has_zero, long_at, trimmed_len, word_at};
+use super::words::{all_below, unpadded};
 use terms::At;
 
 // A path record, by the bytes behind its word.
@@ -17,13 +17,12 @@ fn read_path<'a>(body: &'a [u8], at: usize, known: &DepsTable) -> Read<'a>
     ensures value { shown result ≡ read_path (view known.now).names body.now }
     ensures offset { offset_of at result ≡ at }
 {
-    let end = body.len() - 4;
-    if word_at(body, end) as usize != 0xffff_ffff - known.path_count() {
+    let (padded, sum) = body.split_last_chunk::<4>().unwrap();
+    if u32::from_le_bytes(*sum) as usize != 0xffff_ffff - known.path_count() {
         return Read::Bad(Cause::BadChecksum);
     }
-    let padded = &body[0..end];
-    let name = &padded[0..trimmed_len(padded)];
-    if has_zero(name) || known.id_of(name).is_some() {
+    let name = unpadded(padded);
+    if name.contains(&0) || known.id_of(name).is_some() {
         return Read::Bad(Cause::BadName);
     }
     Read::Path(At {
@@ -38,13 +37,14 @@ fn read_deps<'a>(body: &'a [u8], at: usize, known: &DepsTable) -> Read<'a>
     ensures value { shown result ≡ read_deps (view known.now).names body.now }
     ensures offset { offset_of at result ≡ at }
 {
+    let (output, rest) = body.split_first_chunk::<4>().unwrap();
+    let (mtime, ids) = rest.split_first_chunk::<8>().unwrap();
+    let output = u32::from_le_bytes(*output);
     let count = known.path_count();
-    let output = word_at(body, 0);
-    let mtime = long_at(body, 4);
-    let ids = &body[12..];
     if output as usize >= count || !all_below(ids, count) {
         return Read::Bad(Cause::UnknownId);
     }
+    let mtime = u64::from_le_bytes(*mtime);
     Read::Deps(At {
         offset: at,
         value: Deps { output, mtime, ids },
@@ -66,13 +66,12 @@ fn read_body<'a>(head: u32, rest: &'a [u8], at: usize, known: &DepsTable) -> Rea
     ensures offset { offset_of at result ≡ at }
 {
     let size = (head % 0x8000_0000) as usize;
-    if rest.len() < size {
+    let Some(body) = rest.get(..size) else {
         return Read::Bad(Cause::TooLong);
-    }
+    };
     if odd_size(head) {
         return Read::Bad(Cause::BadSize);
     }
-    let body = &rest[0..size];
     if head >= 0x8000_0000 {
         read_deps(body, at, known)
     } else {
@@ -92,12 +91,11 @@ pub fn read_record<'a>(image: &'a [u8], at: usize, known: &DepsTable) -> (Read<'
     if at >= image.len() {
         return (Read::End, at);
     }
-    let front = &image[at..];
-    if front.len() < 4 {
+    let Some((head, rest)) = image[at..].split_first_chunk::<4>() else {
         return (Read::Bad(Cause::NoWord), at);
-    }
-    let head = word_at(front, 0);
-    let read = read_body(head, &front[4..], at, known);
+    };
+    let head = u32::from_le_bytes(*head);
+    let read = read_body(head, rest, at, known);
     match read {
         Read::Path(_) | Read::Deps(_) => (read, at + 4 + (head % 0x8000_0000) as usize),
         Read::Bad(_) | Read::End => (read, at),

@@ -1,11 +1,13 @@
 // Writing the header and records into a caller's buffer.
-ghost use Rattle.std.specs.Prelude.{◌≡◌, ◌+◌, ◌*◌, ◌≤◌, length};
-ghost use Rattle.image.specs.Bytes.{header, words, padding, path, deps, record_bytes};
+ghost use Rattle.std.specs.Prelude.{◌≡◌};
+ghost use Rattle.image.specs.Bytes.{header, padding, path, deps, record_bytes};
 ghost use Rattle.image.specs.View.{text, entry_of};
-ghost use Rattle.image.specs.Written.{overwritten, written};
+ghost use Rattle.image.specs.Written.{written};
 
 use super::entry::DepsEntry;
 use super::name::Name;
+use std::error::Error;
+use std::fmt;
 
 // What an image begins with: a text, a newline, and the version 4.
 pub const HEADER: [u8; 16] = *b"# ninjadeps\n\x04\0\0\0";
@@ -16,29 +18,13 @@ pub struct TooShort {
     pub need: usize,
 }
 
-// Writes some bytes from a place on, and answers the place behind them.
-fn put(buf: &mut [u8], at: usize, bytes: &[u8]) -> usize
-    requires { at + length bytes.now ≤ length buf.old }
-    ensures place { result ≡ at + length bytes.now }
-    ensures after { buf.new ≡ overwritten at bytes.now buf.old }
-{
-    let end = at + bytes.len();
-    buf[at..end].copy_from_slice(bytes);
-    end
+impl fmt::Display for TooShort {
+    fn fmt<W: fmt::Write>(&self, f: &mut fmt::Formatter<W>) -> fmt::Result {
+        write!(f, "the buffer is too short: {} bytes are needed", self.need)
+    }
 }
 
-// Writes ids, four bytes each.
-fn put_words(buf: &mut [u8], at: usize, ids: &[u32]) -> usize
-    requires { at + 4 * length ids.now ≤ length buf.old }
-    ensures place { result ≡ at + 4 * length ids.now }
-    ensures after { buf.new ≡ overwritten at (words ids.now) buf.old }
-{
-    let mut end = at;
-    for id in ids {
-        end = put(buf, end, &id.to_le_bytes());
-    }
-    end
-}
+impl Error for TooShort {}
 
 pub fn write_header(buf: &mut [u8]) -> Result<usize, TooShort>
     ensures { (result, buf.new) ≡ written header buf.old }
@@ -46,7 +32,8 @@ pub fn write_header(buf: &mut [u8]) -> Result<usize, TooShort>
     if buf.len() < 16 {
         return Err(TooShort { need: 16 });
     }
-    Ok(put(buf, 0, &HEADER))
+    buf[..16].copy_from_slice(&HEADER);
+    Ok(16)
 }
 
 // How many zeros make a multiple of 4 of so many bytes.
@@ -67,10 +54,11 @@ pub fn write_path(buf: &mut [u8], id: u32, name: &Name) -> Result<usize, TooShor
         return Err(TooShort { need: 4 + size });
     }
     let word = size as u32;
-    let mut at = put(buf, 0, &word.to_le_bytes());
-    at = put(buf, at, bytes);
-    at = put(buf, at, &[0; 3][0..zeros]);
-    Ok(put(buf, at, &(0xffff_ffff - id).to_le_bytes()))
+    buf[..4].copy_from_slice(&word.to_le_bytes());
+    buf[4..4 + bytes.len()].copy_from_slice(bytes);
+    buf[4 + bytes.len()..size].fill(0);
+    buf[size..4 + size].copy_from_slice(&(!id).to_le_bytes());
+    Ok(4 + size)
 }
 
 // Writes the deps record that gives the output with this id an entry.
@@ -83,8 +71,11 @@ pub fn write_deps(buf: &mut [u8], output: u32, entry: &DepsEntry) -> Result<usiz
         return Err(TooShort { need: 4 + size });
     }
     let word = 0x8000_0000 + size as u32;
-    let mut at = put(buf, 0, &word.to_le_bytes());
-    at = put(buf, at, &output.to_le_bytes());
-    at = put(buf, at, &entry.mtime().to_le_bytes());
-    Ok(put_words(buf, at, inputs))
+    buf[..4].copy_from_slice(&word.to_le_bytes());
+    buf[4..8].copy_from_slice(&output.to_le_bytes());
+    buf[8..16].copy_from_slice(&entry.mtime().to_le_bytes());
+    for (k, id) in inputs.iter().enumerate() {
+        buf[16 + 4 * k..20 + 4 * k].copy_from_slice(&id.to_le_bytes());
+    }
+    Ok(4 + size)
 }

@@ -1,3 +1,4 @@
+pub mod Memory
 pub mod Fill
 pub mod Told
 pub mod View

@@ -1,10 +1,11 @@
 // The media at the bottom of a pile: bench, whose failures are told, and paged, which keeps whole pages.
 #![tactic(auto)]
 
-mod bench;
-mod paged;
+mod area;
+mod failing;
 mod shelf;
-mod tray;
+mod store;
 
-pub use bench::{Bench, BenchDraft, Plan};
-pub use paged::{Paged, PagedDraft};
+pub use area::Area;
+pub use failing::{Failing, Pages, Plan, Side};
+pub use store::{Bench, Paged, Store, Token};

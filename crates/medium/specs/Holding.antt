@@ -1,7 +1,7 @@
 -- What a write buffer does: which live bytes it holds back, and what it passes to the medium below. s and hs are the state
 -- below and the bytes held before a call, r is the answer, t and hs' are the state below and the bytes held after it.
 -- Assumes nothing.
-use Rattle.std.specs.Prelude.{◌≡◌, ℕ, ◌+◌, ◌-◌, ◌^◌, ◌<◌, ◌≤◌, min, true, false, cond, ◌⊎◌, List, [], ◌++◌, length, take, Ok, Err, Result}
+use Rattle.std.specs.Prelude.{◌≡◌, ℕ, ◌+◌, ◌-◌, ◌^◌, ◌<◌, ◌≤◌, true, false, cond, ◌⊎◌, List, [], ◌++◌, length, take, Ok, Err, Result}
 use Rattle.medium.specs.declared.Fault.{Fault}
 use Rattle.medium.specs.declared.Fault.TheVariants.{Off, Full}
 use Rattle.medium.specs.declared.buffer.Sizes.{Sizes}
@@ -16,30 +16,29 @@ buffered s hs = with_appended hs s
 abbrev pub spare : State → ℕ
 spare s = s.capacity - length (all s.live)
 
--- What is held, of the first n of xs: what there is room for below, and nothing while the power is off. So each n and xs
--- has a meaning, and what is held always fits.
-abbrev pub kept : State → List ℕ → ℕ → List ℕ
-kept s xs n = cond s.power (take (min n (spare s)) xs) []
+-- What is held, of xs: what there is room for below, and nothing while the power is off. So each xs has a meaning, and what
+-- is held always fits.
+abbrev pub kept : State → List ℕ → List ℕ
+kept s xs = cond s.power (take (spare s) xs) []
 
 -- what is still held where the state below is t: nothing, where the power is off
 abbrev pub lit : State → List ℕ → List ℕ
 lit t hs = cond t.power hs []
 
 -- the medium below has l live bytes, and the first h of xs are held
-pub record Sizing (s : State) (xs : List ℕ) (n l h : ℕ) : Type 0 where
+pub record Sizing (s : State) (xs : List ℕ) (l h : ℕ) : Type 0 where
   pub on : s.power ≡ true
   pub below : l ≡ length (all s.live)
-  pub long : length xs ≡ 512
-  pub held : kept s xs n ≡ take h xs
-  pub within : h ≤ 512
+  pub held : kept s xs ≡ take h xs
+  pub within : h ≤ length xs
   pub room : h ≤ s.capacity - l
   pub small : l + h < 2 ^ 64
 
 -- the sizes are asked for: answered while the power is on, and refused as off else
-abbrev pub Sized : State → List ℕ → ℕ → Result Sizes Fault → Type 0
-Sized s xs n (Ok z) = Sizing s xs n z.below z.held
-Sized s xs n (Err Off) = s.power ≡ false
-Sized s xs n (Err Full) = ⊥
+abbrev pub Sized : State → List ℕ → Result Sizes Fault → Type 0
+Sized s xs (Ok z) = Sizing s xs z.below z.held
+Sized s xs (Err Off) = s.power ≡ false
+Sized s xs (Err Full) = ⊥
 
 -- nothing is held, and nothing is passed
 pub record Skipped (hs : List ℕ) (s t : State) : Type 0 where

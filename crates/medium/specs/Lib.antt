@@ -4,3 +4,4 @@ pub mod Failure
 pub mod Calls
 pub mod Holding
 pub mod View
+pub mod Refusals

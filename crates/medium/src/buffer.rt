@@ -1,18 +1,19 @@
 // A medium over any medium, which holds live bytes back in an array of its own.
 ghost use Rattle.std.specs.Prelude.{◌≡◌, []};
+ghost use Rattle.terms.specs.Few.{items};
 ghost use Rattle.medium.specs.Calls.{Appended, Synced, Begun, Drafted, DraftSynced, Promoted, Failed, Returned};
 ghost use Rattle.medium.specs.Holding.{Sized, Passed, PassedThen, HeldBack, lit};
 ghost use Rattle.medium.specs.View.{held_by, view};
 
 use crate::{Fault, Medium, fits};
+use terms::Few;
 
-// The first `len` bytes of `held` are held back, as far as there is room for them below, and none while the power below is
-// off. So every value has a meaning.
+// The bytes of `held` are held back, as far as there is room for them below, and none while the power below is off. So every
+// value has a meaning.
 #[derive(Drop)]
 pub struct WriteBuffer<M: Medium> {
     below: M,
-    held: [u8; 512],
-    len: usize,
+    held: Few<u8, 512>,
 }
 
 // How many live bytes the medium below has, and how many are held.
@@ -30,42 +31,31 @@ impl<M: Medium> WriteBuffer<M> {
     {
         WriteBuffer {
             below,
-            held: [0; 512],
-            len: 0,
+            held: Few::new(0),
         }
     }
 
     fn sizes(&self) -> Result<Sizes, Fault>
-        ensures { Sized (M.Medium.state self.now.below) self.now.held self.now.len result }
+        ensures { Sized (M.Medium.state self.now.below) (items self.now.held) result }
     {
         let below = self.below.length()?;
         let room = self.below.capacity().saturating_sub(below);
-        let held: &[u8] = &self.held;
-        let held = self.len.min(held.len()).min(room);
+        let held = self.held.as_slice().len().min(room);
         Ok(Sizes { below, held })
     }
 
     // Passes the bytes held to the medium below. Where that fails, they are gone.
     fn pass_held(&mut self) -> Result<(), Fault>
-        ensures len { self.new.len ≡ 0 }
+        ensures held { items self.new.held ≡ [] }
         ensures passed { Passed (held_by M.Medium.state self.old) (M.Medium.state self.old.below) result (M.Medium.state self.new.below) }
     {
-        let sizes = self.sizes();
-        self.len = 0;
-        let Ok(
-            Sizes {
-                below: _,
-                held: count,
-            },
-        ) = sizes
-        else {
-            return Ok(());
-        };
+        let count = self.sizes().map_or(0, |sizes| sizes.held);
+        let held = self.held;
+        self.held.truncate(0);
         if count == 0 {
             return Ok(());
         }
-        let held = self.held;
-        self.below.append(&held[0..count])
+        self.below.append(&held.as_slice()[..count])
     }
 }
 
@@ -94,7 +84,7 @@ impl<M: Medium> Medium for WriteBuffer<M> {
         }
         let start = offset + n - sizes.below;
         let m = (sizes.held - start).min(buf.len() - n);
-        buf[n..n + m].copy_from_slice(&self.held[start..start + m]);
+        buf[n..n + m].copy_from_slice(&self.held.as_slice()[start..start + m]);
         Ok(n + m)
     }
 
@@ -106,14 +96,11 @@ impl<M: Medium> Medium for WriteBuffer<M> {
         if !fits(sizes.below + sizes.held, bytes.len(), self.below.capacity()) {
             return Err(Fault::Full);
         }
-        if bytes.len() > 512 - sizes.held {
+        self.held.truncate(sizes.held);
+        if self.held.extend_from_slice(bytes).is_err() {
             self.pass_held()?;
             return self.below.append(bytes);
         }
-        let at = sizes.held;
-        let end = at + bytes.len();
-        self.held[at..end].copy_from_slice(bytes);
-        self.len = end;
         Ok(())
     }
 
@@ -126,6 +113,7 @@ impl<M: Medium> Medium for WriteBuffer<M> {
         self.below.sync()
     }
 
+    #[tactic(auto, using(crate::proofs::Layers::begun))]
     fn begin(&mut self) -> Result<M::Draft, Fault>
         ensures answer { Begun (view M.Medium.state self.old) result (view M.Medium.state self.new) }
         ensures passed { Begun (M.Medium.state self.old.below) result (M.Medium.state self.new.below) }
@@ -134,6 +122,7 @@ impl<M: Medium> Medium for WriteBuffer<M> {
         self.below.begin()
     }
 
+    #[tactic(auto, using(crate::proofs::Layers::drafted))]
     fn draft_append(&mut self, draft: &M::Draft, bytes: &[u8]) -> Result<(), Fault>
         ensures answer { Drafted bytes.now (view M.Medium.state self.old) result (view M.Medium.state self.new) }
         ensures passed { Drafted bytes.now (M.Medium.state self.old.below) result (M.Medium.state self.new.below) }
@@ -142,6 +131,7 @@ impl<M: Medium> Medium for WriteBuffer<M> {
         self.below.draft_append(draft, bytes)
     }
 
+    #[tactic(auto, using(crate::proofs::Layers::draft_synced))]
     fn draft_sync(&mut self, draft: &M::Draft) -> Result<(), Fault>
         ensures answer { DraftSynced (view M.Medium.state self.old) result (view M.Medium.state self.new) }
         ensures passed { DraftSynced (M.Medium.state self.old.below) result (M.Medium.state self.new.below) }
@@ -150,12 +140,13 @@ impl<M: Medium> Medium for WriteBuffer<M> {
         self.below.draft_sync(draft)
     }
 
+    #[tactic(auto, using(crate::proofs::Layers::promoted))]
     fn promote(&mut self, draft: M::Draft) -> Result<(), Fault>
         ensures answer { Promoted (view M.Medium.state self.old) result (view M.Medium.state self.new) }
         ensures passed { Promoted (M.Medium.state self.old.below) result (M.Medium.state self.new.below) }
         ensures held { held_by M.Medium.state self.new ≡ [] }
     {
-        self.len = 0;
+        self.held.truncate(0);
         self.below.promote(draft)
     }
 
@@ -163,6 +154,7 @@ impl<M: Medium> Medium for WriteBuffer<M> {
         self.below.give_up(draft)
     }
 
+    #[tactic(auto, using(crate::proofs::Layers::failed))]
     fn power_failure(&mut self)
         ensures answer { Failed (view M.Medium.state self.old) (view M.Medium.state self.new) }
         ensures passed { Failed (M.Medium.state self.old.below) (M.Medium.state self.new.below) }
@@ -177,7 +169,7 @@ impl<M: Medium> Medium for WriteBuffer<M> {
         ensures held { held_by M.Medium.state self.new ≡ held_by M.Medium.state self.old }
     {
         if self.below.length().is_err() {
-            self.len = 0;
+            self.held.truncate(0);
         }
         self.below.power_return()
     }

@@ -7,26 +7,39 @@ ghost use Rattle.medium.specs.State.{State};
 ghost use Rattle.medium.specs.Calls.{Measured, ReadOut, Appended, Synced, Begun, Drafted, DraftSynced, Promoted, Failed, Returned};
 
 mod buffer;
+mod refusals;
 
 pub use buffer::WriteBuffer;
+use std::error::Error;
+use std::fmt;
 
 // Why a medium refuses a call.
 #[derive(Clone, Copy, Debug, PartialEq, Eq)]
 pub enum Fault {
     // The power is off, or failed inside the call.
-    Off,
+    Off = 1,
     // The bytes would grow past the capacity.
-    Full,
+    Full = 2,
 }
 
-pub fn fault_number(fault: Fault) -> u8
-    ensures { result ≡ number_of fault }
-{
-    match fault {
-        Fault::Off => 1,
-        Fault::Full => 2,
+impl Fault {
+    pub fn number(self) -> u8
+        ensures { result ≡ number_of self }
+    {
+        self as u8
     }
 }
+
+impl fmt::Display for Fault {
+    fn fmt<W: fmt::Write>(&self, f: &mut fmt::Formatter<W>) -> fmt::Result {
+        f.write_str(match self {
+            Fault::Off => "the power is off or failed",
+            Fault::Full => "the bytes would grow past the capacity",
+        })
+    }
+}
+
+impl Error for Fault {}
 
 pub trait Medium {
     // The right to write the draft, held beside the medium. It is not `Drop`: `promote` or `give_up` spends it.

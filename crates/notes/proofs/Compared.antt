@@ -1,21 +1,24 @@
 -- Names compared one by one. Assumes nothing.
-use Rattle.std.proofs.Common.{◌≡◌, ℕ, zero, suc, ◌+◌, ◌<◌, ◌≤◌, Bool, true, false, ◌&&◌, List, [], ◌∷◌, length, get_or, drop, Some, None, sym, refl, ap, ◌∙◌, arith}
-use Rattle.std.specs.List.{slice_get}
+use lib.Pointwise.{pointwise}
+use Rattle.std.proofs.Common.{◌≡◌, ℕ, suc, Bool, true, false, ◌&&◌, eqb, List, [], ◌∷◌, map, length, get_or, Some, None, Option, refl, sym, ap, ◌∙◌, arith, Bor}
+use Rattle.std.specs.List.{slice_get, list_all, zip}
+use Rattle.std.specs.Option.{option_map, unwrap_or}
 use Rattle.std.specs.Str.{bytes_eq}
-use Rattle.std.proofs.lemmas.List.{drop_more, drop_all}
-use Rattle.std.proofs.lemmas.Bool.{and_right}
-use Rattle.notes.specs.Notes.{same_names}
+use Rattle.std.proofs.Math.Bool.{and-false}
+use Rattle.std.proofs.lemmas.Bool.Decides.{Decides-eqb}
+use Rattle.std.proofs.lemmas.Option.{unwrap_or-slice_get}
+use Rattle.std.proofs.lemmas.Slice.Eq.{slice_eq-Decides}
+use Rattle.terms.specs.declared.Place.{Place}
+use Rattle.terms.specs.Places.{at_place}
+use Rattle.image.specs.Tables.{Table}
+use Rattle.image.proofs.Lookup.{decided}
+use Rattle.notes.specs.Notes.{name_of, same_names}
 
--- the name with an id that is known, and with one that is not
-pub name-some : (ns : List (List ℕ)) (i : ℕ) (x : List ℕ) → Some x ≡ slice_get ns i → x ≡ get_or ns i []
-name-some [] i x e = absurd (let z : ◌≡◌ {A = ℕ} 0 1 = cc in omega arith)
-name-some (n ∷ ns) zero x e = cc
-name-some (n ∷ ns) (suc i) x e = name-some ns i x e
-
-pub name-none : (ns : List (List ℕ)) (i : ℕ) → None ≡ slice_get ns i → [] ≡ get_or ns i []
-name-none [] i e = refl
-name-none (n ∷ ns) zero e = absurd (let z : ◌≡◌ {A = ℕ} 0 1 = cc in omega arith)
-name-none (n ∷ ns) (suc i) e = name-none ns i e
+-- what a name or a default is, as bytes
+pub name_or : (r : Option (Bor (List ℕ))) (d x : Bor (List ℕ)) (ns : List (List ℕ)) (i : ℕ) → x ≡ unwrap_or r d → d.now ≡ [] →
+    option_map (λ (y : Bor (List ℕ)). y.now) r ≡ slice_get ns i → x.now ≡ get_or ns i []
+name_or None d x ns i e n m = ap (λ (y : Bor (List ℕ)). y.now) e ∙ n ∙ ap (λ (o : Option (List ℕ)). unwrap_or o []) m ∙ unwrap_or-slice_get ns i []
+name_or (Some z) d x ns i e n m = ap (λ (y : Bor (List ℕ)). y.now) e ∙ ap (λ (o : Option (List ℕ)). unwrap_or o []) m ∙ unwrap_or-slice_get ns i []
 
 -- Lists of names ---------------------------------------------------------------------------------------------------------
 
@@ -23,22 +26,21 @@ pub lengths_differ : (xs ys : List (List ℕ)) → (length xs ≡ length ys → 
 lengths_differ [] [] h = absurd (h refl)
 lengths_differ [] (y ∷ ys) h = refl
 lengths_differ (x ∷ xs) [] h = refl
-lengths_differ (x ∷ xs) (y ∷ ys) h = and_right (bytes_eq x y) (same_names xs ys) (lengths_differ xs ys (λ e. h (omega arith)))
+lengths_differ (x ∷ xs) (y ∷ ys) h = ap (λ (b : Bool). bytes_eq x y && b) (lengths_differ xs ys (λ e. h (omega arith))) ∙ and-false (bytes_eq x y)
 
-step-names : (xs ys : List (List ℕ)) (i : ℕ) (b : Bool) → i < length xs → i < length ys → bytes_eq (get_or xs i []) (get_or ys i []) ≡ b →
-    same_names (drop i xs) (drop i ys) ≡ (b && same_names (drop (i + 1) xs) (drop (i + 1) ys))
-step-names xs ys i b h l e =
-    ap (λ (zs : List (List ℕ)). same_names zs (drop i ys)) (drop_more xs i [] h) ∙
-    ap (same_names (get_or xs i [] ∷ drop (i + 1) xs)) (drop_more ys i [] l) ∙
-    ap (λ (c : Bool). c && same_names (drop (i + 1) xs) (drop (i + 1) ys)) e
+-- the name at a place is that with an id
+abbrev pub same_at : Table → List ℕ → Place × ℕ → Bool
+same_at t bytes p = pointwise eqb (at_place bytes p.0) (name_of t p.1)
 
--- while they are the same, what is left decides
-pub next-same : (xs ys : List (List ℕ)) (i : ℕ) → i < length xs → i < length ys → bytes_eq (get_or xs i []) (get_or ys i []) ≡ true →
-    same_names (drop (i + 1) xs) (drop (i + 1) ys) ≡ same_names (drop i xs) (drop i ys)
-next-same xs ys i h l e = sym (step-names xs ys i true h l e)
+same_bytes : (xs ys : List ℕ) → pointwise eqb xs ys ≡ bytes_eq xs ys
+same_bytes xs ys = sym (decided (pointwise eqb xs ys) xs ys (slice_eq-Decides Decides-eqb xs ys (pointwise eqb xs ys) refl))
 
-pub next_differs : (xs ys : List (List ℕ)) (i : ℕ) → i < length xs → i < length ys → bytes_eq (get_or xs i []) (get_or ys i []) ≡ false → same_names (drop i xs) (drop i ys) ≡ false
-next_differs xs ys i h l e = step-names xs ys i false h l e
-
-pub none_left : (xs ys : List (List ℕ)) (i : ℕ) → length xs ≤ i → length ys ≤ i → same_names (drop i xs) (drop i ys) ≡ true
-none_left xs ys i h l = ap (λ (zs : List (List ℕ)). same_names zs (drop i ys)) (drop_all i xs h) ∙ ap (same_names []) (drop_all i ys l)
+-- pair by pair
+pub all-same : (t : Table) (bytes : List ℕ) (places : List Place) (ids : List ℕ) → length places ≡ length ids →
+    list_all (same_at t bytes) (zip places ids) ≡ same_names (map (at_place bytes) places) (map (name_of t) ids)
+all-same t bytes [] [] h = refl
+all-same t bytes [] (i ∷ ids) h = absurd (omega arith)
+all-same t bytes (p ∷ places) [] h = absurd (omega arith)
+all-same t bytes (p ∷ places) (i ∷ ids) h =
+    ap (λ (b : Bool). b && list_all (same_at t bytes) (zip places ids)) (same_bytes (at_place bytes p) (name_of t i)) ∙
+    ap (λ (b : Bool). bytes_eq (at_place bytes p) (name_of t i) && b) (all-same t bytes places ids (omega arith))

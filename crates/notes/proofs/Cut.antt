@@ -96,7 +96,7 @@ cut_notes image t at (n ∷ ns) k kept a e =
           let r : Reach image t at (placed id at rs) (note_table t n) at' = reach-written image t id at at' rs more refl w g refl in
           record {
             count = suc c.count;
-            part = let q = c.of in omega arith;
+            part = let q = c.part in omega arith;
             safe = go_on t n ns k c.count l c.safe;
             table = c.table;
             records = placed id at rs ++ c.records;
@@ -171,7 +171,7 @@ cut_anywhere image ns k w a =
     let o = ap (λ (x : Scan). first_over 0 x.records) s ∙ limits_on c.records r w.within ∙ c.within in
     record {
       count = c.count;
-      part = c.of;
+      part = c.part;
       safe = c.safe;
       same = same;
       agree = λ old g output. agree_goes_on t old part w.kept (front_fits t c.count ns a) g output ∙ sym (same output);

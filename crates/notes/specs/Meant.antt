@@ -5,11 +5,16 @@ use Rattle.terms.specs.declared.Place.{Place}
 use Rattle.terms.specs.Lists.{place_in}
 use Rattle.terms.specs.Places.{at_place}
 use Rattle.image.specs.Tables.{Entry, Table}
+use Rattle.notes.specs.declared.given.Given.{Given}
 use Rattle.notes.specs.Notes.{Says, Note, by_names}
 
 -- the note that is meant by bytes and places in them
 abbrev pub meant : List ℕ → Place → ℕ → List Place → Note
 meant bytes output mtime inputs = record { output = at_place bytes output; says = record { mtime = mtime; inputs = map (at_place bytes) inputs } }
+
+-- the note that a caller gives
+abbrev pub given_note : Given → Note
+given_note n = meant n.bytes.now n.output n.mtime n.inputs.now
 
 abbrev pub found_at : ℕ → Option Entry → Option Found
 found_at id None = None

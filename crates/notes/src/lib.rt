@@ -3,14 +3,16 @@
 
 ghost use Rattle.notes.specs.Laws.{Accepted, NoteAdds, NoteReadsBack, NotesReadBack, NotingKeeps, CutAnywhere, MendingKeeps, LatestNoted, AgreeGoesOn, Compaction};
 
+mod given;
 mod lookup;
 mod same;
 
+pub use given::Given;
 pub use lookup::find;
 pub use same::{is_unchanged, name_of};
 
 // The laws of noting.
-pub fn laws_of_noting() -> u8
+pub fn laws_of_noting()
     ensures accepted { Accepted }
     ensures adds { NoteAdds }
     ensures read_back { NoteReadsBack }
@@ -20,13 +22,9 @@ pub fn laws_of_noting() -> u8
     ensures mended { MendingKeeps }
     ensures latest { LatestNoted }
     ensures agree { AgreeGoesOn }
-{
-    0
-}
+{}
 
 // The laws of recompacting.
-pub fn laws_of_recompacting() -> u8
+pub fn laws_of_recompacting()
     ensures { Compaction }
-{
-    0
-}
+{}

@@ -12,14 +12,10 @@ pub fn find(table: &DepsTable, output: &[u8]) -> Option<Found>
     ensures answer { result ≡ found (view table.now) output.now }
     ensures says { found_says (view table.now) result ≡ entry_of (view table.now) output.now }
 {
-    match table.id_of(output) {
-        None => None,
-        Some(index) => match table.entry(index) {
-            None => None,
-            Some(entry) => Some(Found {
-                index,
-                mtime: entry.mtime(),
-            }),
-        },
-    }
+    let index = table.id_of(output)?;
+    let entry = table.entry(index)?;
+    Some(Found {
+        index,
+        mtime: entry.mtime(),
+    })
 }

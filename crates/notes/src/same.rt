@@ -2,53 +2,37 @@
 ghost use Rattle.std.specs.Prelude.{◌≡◌, map};
 ghost use Rattle.image.specs.Learning.{view};
 ghost use Rattle.notes.specs.Notes.{name_of, same_names, unchanged};
-ghost use Rattle.terms.specs.Places.{at_place};
-ghost use Rattle.notes.specs.Meant.{meant};
+ghost use Rattle.notes.specs.Meant.{given_note};
 
+use super::given::Given;
 use image::DepsTable;
-use terms::Place;
 
 // The name with an id; of an id that is not known, no bytes.
 pub fn name_of(table: &DepsTable, id: usize) -> &[u8]
     ensures { result.now ≡ name_of (view table.now) id }
 {
-    match table.name(id) {
-        None => &[],
-        Some(name) => name,
-    }
+    table.name(id).unwrap_or(&[])
 }
 
-// Whether the names at these places are those with these ids, in order.
-fn same_names(table: &DepsTable, ids: &[u32], bytes: &[u8], places: &[Place]) -> bool
-    ensures { result ≡ same_names (map (at_place bytes.now) places.now) (map (name_of (view table.now)) ids.now) }
+// Whether the note's inputs are the names with these ids, in order.
+fn same_names(table: &DepsTable, ids: &[u32], note: &Given) -> bool
+    ensures { result ≡ same_names (given_note note.now).says.inputs (map (name_of (view table.now)) ids.now) }
 {
-    if places.len() != ids.len() {
+    note.inputs.len() == ids.len()
+        && note.inputs.iter().zip(ids).all(|(place, id)| {
+            place.of(note.bytes) == name_of(table, *id as usize)
+        })
+}
+
+// Whether the output's entry has the same mtime and inputs as the note already.
+pub fn is_unchanged(table: &DepsTable, note: &Given) -> bool
+    ensures { result ≡ unchanged (view table.now) (given_note note.now) }
+{
+    let Some(id) = table.id_of(note.output_name()) else {
         return false;
-    }
-    for i in 0..places.len() {
-        if places[i].of(bytes) != name_of(table, ids[i] as usize) {
-            return false;
-        }
-    }
-    true
-}
-
-// Whether the output's entry has the same mtime and inputs as the note that is meant by bytes and places.
-pub fn is_unchanged(
-    table: &DepsTable,
-    bytes: &[u8],
-    output: Place,
-    mtime: u64,
-    inputs: &[Place],
-) -> bool
-    ensures { result ≡ unchanged (view table.now) (meant bytes.now output mtime inputs.now) }
-{
-    match table.id_of(output.of(bytes)) {
-        None => false,
-        Some(id) => match table.entry(id) {
-            None => false,
-            Some(entry) => mtime == entry.mtime()
-                && same_names(table, entry.inputs(), bytes, inputs),
-        },
-    }
+    };
+    let Some(entry) = table.entry(id) else {
+        return false;
+    };
+    note.mtime == entry.mtime() && same_names(table, entry.inputs(), note)
 }

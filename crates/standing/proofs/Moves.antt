@@ -22,7 +22,7 @@ use Rattle.notes.proofs.Lengths.{note_adds}
 use Rattle.notes.proofs.Wholes.{notes_read_back}
 use Rattle.notes.proofs.LatestNoted.{agree_goes_on}
 use Rattle.notes.proofs.Compacted.{compaction}
-use Rattle.rewriting.specs.Replacing.{Replaced}
+use Rattle.depslog.specs.Replacing.{Replaced}
 use Rattle.depslog.specs.State.{LogState, open_on, closed_on, live_of}
 use Rattle.depslog.specs.Appending.{AppendedAll}
 use Rattle.depslog.specs.Checks.{refuse, sync_fault}

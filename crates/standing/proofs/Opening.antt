@@ -12,7 +12,7 @@ use Rattle.notes.specs.Notes.{Note}
 use Rattle.notes.specs.Wholeness.{Agree, Tells}
 use Rattle.notes.proofs.Places.{same-is}
 use Rattle.notes.proofs.Wholes.{mending_keeps}
-use Rattle.rewriting.specs.Replacing.{Replaced}
+use Rattle.depslog.specs.Replacing.{Replaced}
 use Rattle.depslog.specs.declared.opened.Opened.{Opened}
 use Rattle.depslog.specs.State.{LogState, open_on, closed_on, with_medium, live_of}
 use Rattle.depslog.specs.Checks.{refuse, over_fault, mends, open_fault}

@@ -3,11 +3,9 @@
 
 ghost use Rattle.standing.specs.Laws.{NewIsSound, CallsKeepSound, SoundTells, SoundOpens};
 
-pub fn laws_of_the_log() -> u8
+pub fn laws_of_the_log()
     ensures made { NewIsSound }
     ensures kept { CallsKeepSound }
     ensures tells { SoundTells }
     ensures opens { SoundOpens }
-{
-    0
-}
+{}

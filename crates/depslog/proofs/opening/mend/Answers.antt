@@ -1,6 +1,6 @@
-use Rattle.std.proofs.Common.{◌<◌, length, sym, refl, inl, inr, arith}
+use Rattle.std.proofs.Common.{rules, ◌<◌, length, sym, arith}
 use Rattle.std.proofs.lemmas.Bool.{eqb-true, eqb-false}
-use Rattle.depslog.proofs.Opens.{synced-off, mended-empty, mended-short, mended-not}
+use Rattle.depslog.proofs.Opens.{mended-empty, mended-short, mended-not}
 use Rattle.depslog.proofs.opening.mend.Goals as goal
 
 pub returns-then-is_empty : goal.returns-then-is_empty
@@ -14,16 +14,8 @@ returns-then-good-live g c =
     let some : 0 < length live = omega (arith, eqb-false (length live) 0 (sym c.if-is_empty.ensures)) in
     mended-short live c.args.good _ c.put_in_place-then-good-live.result _ some c.requires c.if-good-live.true c.put_in_place-then-good-live.ensures
 
-pub returns-in-Ok : goal.returns-in-Ok
-returns-in-Ok g c =
+pub returns-else-good-live : goal.returns-else-good-live
+returns-else-good-live g c =
     let live = c.args.live.now in
     let some : 0 < length live = omega (arith, eqb-false (length live) 0 (sym c.if-is_empty.ensures)) in
-    mended-not live c.args.good _ _ _ some c.requires c.if-good-live.false (inl (refl, c.in-Ok.ensures))
-
-pub returns-in-Err : goal.returns-in-Err
-returns-in-Err g c =
-    let st = g.M.Medium.state in
-    let live = c.args.live.now in
-    let some : 0 < length live = omega (arith, eqb-false (length live) 0 (sym c.if-is_empty.ensures)) in
-    let off = synced-off (st c.args.medium.now) (st c.sync.new.self) c.in-Err.field-0 c.in-Err.ensures in
-    mended-not live c.args.good _ _ _ some c.requires c.if-good-live.false (inr (refl, off))
+    mended-not live c.args.good _ _ _ some c.requires c.if-good-live.false (search rules)

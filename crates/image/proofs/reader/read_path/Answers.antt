@@ -1,35 +1,42 @@
-use Rattle.std.proofs.Common.{◌-◌, true, false, length, take, is_some, sym, refl, ap, ◌∙◌, arith}
+use Rattle.std.proofs.Common.{◌≡◌, ◌-◌, true, false, length, drop, is_some, sym, ap, ◌∙◌, w32}
+use Rattle.std.specs.Int.{from_le_bytes}
 use Rattle.std.proofs.lemmas.Bool.{or_left, or_right, or_from}
+use Rattle.std.proofs.lemmas.Option.{MatchOption-at_some}
 use Rattle.terms.specs.Lists.{is_in}
 use Rattle.terms.specs.Names.{holds_zero}
+use Rattle.image.specs.Bytes.{checksum}
+use Rattle.image.specs.Reading.{word_at, unpadded}
 use Rattle.image.specs.Learning.{view}
-use Rattle.image.proofs.Readings.{name-part, known_by, name-bad, name-good}
+use Rattle.image.proofs.Chunks.{word-of, any-zero}
+use Rattle.image.proofs.Loops.{word_at-drop}
+use Rattle.image.proofs.Readings.{known_by, name-bad, name-good}
 use Rattle.image.proofs.reader.read_path.Goals as goal
-use Rattle.image.proofs.reader.read_path.Goals.{then-has_zero-via-then-has_zero, then-has_zero-via-else-has_zero+then-is_some}
+use Rattle.image.proofs.reader.read_path.Goals.{then-contains-via-then-contains, then-contains-via-else-contains+then-is_some}
 
-pub returns-then-has_zero : goal.returns-then-has_zero
-returns-then-has_zero c =
+pub returns-then-contains-clause-value : goal.returns-then-contains-clause-value
+returns-then-contains-clause-value c =
     let body = c.args.body.now in
     let known = (view c.args.known.now).names in
-    let name = take (c.trimmed_len.result - 0) (take (length body - 4 - 0) body) in
-    let part = name-part body c.trimmed_len.result c.trimmed_len.ensures.bytes in
-    record {
-      value = name-bad known body name part (omega (arith, c.word_at.ensures, c.path_count.ensures.count))
-          (elim c.then-has_zero.branch [
-            | then-has_zero-via-then-has_zero w ↦ or_left (holds_zero name) (is_in name known) (sym w.if-has_zero.ensures)
-            | then-has_zero-via-else-has_zero+then-is_some w ↦ or_right (holds_zero name) (is_in name known) (known_by name known true (w.if-is_some.ensures ∙ ap is_some w.id_of.ensures))
-          ]);
-      offset = refl;
-    }
+    let name = c.unpadded-name.result.now in
+    let p = MatchOption-at_some _ _ c.unwrap.result c.unwrap.ensures c.split_last_chunk.ensures.cases in
+    let w : word_at body (length body - 4) ≡ checksum (length known) =
+    word_at-drop body (length body - 4) ∙ sym (word-of (drop (length body - 4) body)) ∙ ap (from_le_bytes w32) (sym p.1) ∙ sym c.from_le_bytes.ensures ∙
+    c.if-from_le_bytes-path_count.false ∙ ap checksum c.path_count.ensures.count in
+    name-bad known body name (c.unpadded-name.ensures ∙ ap unpadded p.0) w
+    (elim c.then-contains.branch [
+      | then-contains-via-then-contains v ↦ or_left (holds_zero name) (is_in name known) (sym (any-zero name) ∙ sym c.contains.ensures.value ∙ v.if-contains.true)
+      | then-contains-via-else-contains+then-is_some v ↦ or_right (holds_zero name) (is_in name known) (known_by name known true (v.if-is_some.ensures ∙ ap is_some v.id_of.ensures))
+    ])
 
-pub returns : goal.returns
-returns c =
+pub returns-clause-value : goal.returns-clause-value
+returns-clause-value c =
     let body = c.args.body.now in
     let known = (view c.args.known.now).names in
-    let name = take (c.trimmed_len.result - 0) (take (length body - 4 - 0) body) in
-    let part = name-part body c.trimmed_len.result c.trimmed_len.ensures.bytes in
-    record {
-      value = name-good known body name part (omega (arith, c.word_at.ensures, c.path_count.ensures.count))
-          (or_from (holds_zero name) (is_in name known) (sym c.if-has_zero.ensures) (known_by name known false (c.if-is_some.ensures ∙ ap is_some c.id_of.ensures)));
-      offset = refl;
-    }
+    let name = c.unpadded-name.result.now in
+    let p = MatchOption-at_some _ _ c.unwrap.result c.unwrap.ensures c.split_last_chunk.ensures.cases in
+    let w : word_at body (length body - 4) ≡ checksum (length known) =
+    word_at-drop body (length body - 4) ∙ sym (word-of (drop (length body - 4) body)) ∙ ap (from_le_bytes w32) (sym p.1) ∙ sym c.from_le_bytes.ensures ∙
+    c.if-from_le_bytes-path_count.false ∙ ap checksum c.path_count.ensures.count in
+    name-good known body name (c.unpadded-name.ensures ∙ ap unpadded p.0) w
+    (or_from (holds_zero name) (is_in name known) (sym (any-zero name) ∙ sym c.contains.ensures.value ∙ c.if-contains.false)
+    (known_by name known false (c.if-is_some.ensures ∙ ap is_some c.id_of.ensures)))

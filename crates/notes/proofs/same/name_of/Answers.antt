@@ -1,11 +1,7 @@
-use Rattle.std.proofs.Common.{sym, ap, ◌∙◌}
-use Rattle.std.specs.Option.{option_map}
+use Rattle.std.proofs.Common.{refl}
 use Rattle.image.specs.Learning.{view}
-use Rattle.notes.proofs.Compared.{name-some, name-none}
+use Rattle.notes.proofs.Compared.{name_or}
 use Rattle.notes.proofs.same.name_of.Goals as goal
 
-pub returns-in-None : goal.returns-in-None
-returns-in-None c = name-none (view c.args.table.now).names c.args.id (ap (option_map (λ x. x.now)) (sym c.in-None.is) ∙ c.name.ensures)
-
-pub returns-in-Some : goal.returns-in-Some
-returns-in-Some c = name-some (view c.args.table.now).names c.args.id c.in-Some.name.now (ap (option_map (λ x. x.now)) (sym c.in-Some.is) ∙ c.name.ensures)
+pub returns : goal.returns
+returns c = name_or c.name.result _ c.unwrap_or.result (view c.args.table.now).names c.args.id c.unwrap_or.ensures refl c.name.ensures

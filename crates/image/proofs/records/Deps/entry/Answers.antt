@@ -1,12 +1,17 @@
-use Rattle.std.proofs.Common.{◌≡◌, ℕ, ◌+◌, ◌-◌, ◌*◌, ◌/◌, ◌<◌, ◌≤◌, true, leb, List, ◌++◌, length, drop, Some, None, Option, sym, ap, ◌∙◌, arith}
-use Rattle.std.proofs.lemmas.List.{append-nil, length_push}
-use Rattle.std.proofs.lemmas.Bool.{le-leb, lt-leb, lt-ltb, cond-true, cond-false}
+use Rattle.std.proofs.Common.{◌≡◌, ℕ, ◌/◌, ◌≤◌, Bool, true, false, cond, leb, ltb, List, length, map, take, Some, None, Ok, Err, Option, Result, is_some, sym, ap, ◌∙◌, arith, w32}
+use Rattle.std.specs.Int.{from_le_bytes}
+use Rattle.std.specs.Option.{option_map}
+use Rattle.std.specs.Result.{result_ok}
+use Rattle.std.proofs.lemmas.List.{take_all, length-map, length-take-le}
+use Rattle.std.proofs.lemmas.Bool.{le-leb, lt-leb, ltb-false, cond-true, cond-false}
+use Rattle.terms.specs.declared.NoRoom.{NoRoom}
 use Rattle.terms.specs.Lists.{◌▷◌}
-use Rattle.image.specs.Reading.{word_at, words_of}
 use Rattle.image.specs.Tables.{Entry}
 use Rattle.image.specs.View.{entry_of}
 use Rattle.image.specs.Shown.{ids_of}
-use Rattle.image.proofs.Loops.{length-words_of, words_gathered}
+use Rattle.image.proofs.Chunks.{words-made, map-more}
+use Rattle.image.proofs.Loops.{length-words_of}
+use Rattle.image.proofs.Learned.{entry-short}
 use Rattle.image.proofs.records.Deps.entry.Goals as goal
 
 abbrev inputs_of : Entry → List ℕ
@@ -15,48 +20,47 @@ inputs_of e = e.inputs
 abbrev mtime_of : Entry → ℕ
 mtime_of e = e.mtime
 
-pub returns-then-count-gt64 : goal.returns-then-count-gt64
-returns-then-count-gt64 c =
+-- whether there was room
+had_room : (b : Bool) (r : Result (Unit {0}) NoRoom) (o : Option (Unit {0})) → r ≡ cond b (Ok tt) (Err (record {})) → o ≡ result_ok r → is_some o ≡ b
+had_room true r o e f = ap is_some (f ∙ ap result_ok e)
+had_room false r o e f = ap is_some (f ∙ ap result_ok e)
+
+pub loop-id-init : goal.loop-id-init
+loop-id-init c = record { timed = ap mtime_of c.new-gathered.ensures; made = ap inputs_of c.new-gathered.ensures }
+
+pub loop-id-preserved : goal.loop-id-preserved
+loop-id-preserved c =
+    let was = entry_of c.loop-id.gathered in
+    let words = c.as_chunks.result.0.now in
+    let more : Entry = record { mtime = was.mtime; inputs = was.inputs ▷ c.from_le_bytes.result } in
+    let room : ltb (length was.inputs) 64 ≡ true = sym (had_room _ c.push.result c.ok.result c.push.ensures.room c.ok.ensures.value) ∙ ap is_some c.in_ok-ok.was in
+    let e : entry_of c.push.new.self ≡ more = c.push.ensures.after ∙ cond-true (ltb (length was.inputs) 64) more was room in
+    record {
+      timed = ap mtime_of e ∙ c.loop-id.invariant.timed;
+      made = ap inputs_of e ∙ ap (λ (xs : List ℕ). xs ▷ c.from_le_bytes.result) c.loop-id.invariant.made ∙
+          map-more (from_le_bytes w32) words c.loop-id.id-index _ c.from_le_bytes.result c.loop-id-test.true c.from_le_bytes.ensures;
+    }
+
+pub returns-in_err-ok : goal.returns-in_err-ok
+returns-in_err-ok c =
     let d = c.args.self.now in
-    let ids : List ℕ = ids_of d in
-    let made : Option Entry = Some (record { mtime = d.mtime; inputs = ids }) in
-    sym (cond-false (leb (length ids) 64) made None (lt-leb (length ids) 64 (omega (arith, length-words_of (length d.ids.now / 4) d.ids.now, c.if-count-gt64.true))))
-
-pub loop-k-init : goal.loop-k-init
-loop-k-init c =
-    let ids = c.args.self.now.ids.now in
-    let i = ap inputs_of c.new-gathered.ensures in (
-      ap mtime_of c.new-gathered.ensures,
-      ap length i,
-      ap (λ (xs : List ℕ). xs ++ words_of (length ids / 4 - 0) ids) i ∙ ap (λ (n : ℕ). words_of n ids) (omega arith),
-    )
-
-pub loop-k-preserved : goal.loop-k-preserved
-loop-k-preserved c =
-    let ids = c.args.self.now.ids.now in
-    let k = c.loop-k.k in
-    let was = entry_of c.loop-k.gathered in
-    let n : ℕ = length ids / 4 in
-    let h : k < n = c.loop-k-test.true in
-    let room : c.push.result ≡ true = c.push.ensures.room ∙ lt-ltb (length was.inputs) 64 (omega (arith, c.loop-k.invariant.1, c.if-count-gt64.false)) in
-    let more : Entry = record { mtime = was.mtime; inputs = was.inputs ▷ c.word_at.result } in
-    let e : entry_of c.push.new.self ≡ more = c.push.ensures.after ∙ cond-true c.push.result more was room in
-    let i : inputs_of (entry_of c.push.new.self) ≡ was.inputs ▷ word_at ids (4 * k) = ap inputs_of e ∙ ap (λ (w : ℕ). was.inputs ▷ w) c.word_at.ensures in (
-      ap mtime_of e ∙ c.loop-k.invariant.0,
-      omega (arith, ap length i, length_push was.inputs (word_at ids (4 * k)), c.loop-k.invariant.1),
-      ap (λ (xs : List ℕ). xs ++ words_of (n - (k + 1)) (drop (4 * (k + 1)) ids)) i ∙ words_gathered n k ids was.inputs h c.loop-k.invariant.2,
-    )
+    let was = entry_of c.loop-id.gathered in
+    let words = c.as_chunks.result.0.now in
+    let i = c.loop-id.id-index in
+    let full : ltb (length was.inputs) 64 ≡ false = sym (had_room _ c.push.result c.ok.result c.push.ensures.room c.ok.ensures.value) ∙ ap is_some c.in_err-ok.was in
+    let n : length was.inputs ≡ i = ap length c.loop-id.invariant.made ∙ length-map (take i words) (from_le_bytes w32) ∙ length-take-le i words (omega (arith, c.loop-id-test.true)) in
+    let made : Option Entry = Some (record { mtime = d.mtime; inputs = ids_of d }) in
+    ap (option_map entry_of) c.from_residual.ensures ∙
+    sym (cond-false (leb (length (ids_of d)) 64) made None (lt-leb (length (ids_of d)) 64
+    (omega (arith, length-words_of (length d.ids.now / 4) d.ids.now, ltb-false (length was.inputs) 64 full, n, c.loop-id-test.true, c.as_chunks.ensures.front_len))))
 
 pub returns : goal.returns
 returns c =
     let d = c.args.self.now in
-    let bytes = d.ids.now in
-    let k = c.loop-k.k in
-    let n : ℕ = length bytes / 4 in
-    let was = entry_of c.loop-k.gathered in
-    let z : n - k ≡ 0 = omega (arith, c.loop-k-test.false) in
-    let i : was.inputs ≡ ids_of d =
-    sym (append-nil was.inputs) ∙ ap (λ (j : ℕ). was.inputs ++ words_of j (drop (4 * k) bytes)) (sym z) ∙ c.loop-k.invariant.2 in
+    let words = c.as_chunks.result.0.now in
+    let was = entry_of c.loop-id.gathered in
     let F : ℕ → List ℕ → Option Entry = λ m xs. Some (record { mtime = m; inputs = xs }) in
-    let l : length (ids_of d) ≤ 64 = omega (arith, length-words_of n bytes, c.if-count-gt64.false) in
-    ap (λ (m : ℕ). F m was.inputs) c.loop-k.invariant.0 ∙ ap (F d.mtime) i ∙ sym (cond-true (leb (length (ids_of d)) 64) (F d.mtime (ids_of d)) None (le-leb (length (ids_of d)) 64 l))
+    let i : was.inputs ≡ ids_of d =
+    c.loop-id.invariant.made ∙ ap (map (from_le_bytes w32)) (take_all c.loop-id.id-index words c.loop-id-test.false ∙ c.as_chunks.ensures.front) ∙ words-made (length d.ids.now / 4) d.ids.now in
+    let l : length (ids_of d) ≤ 64 = omega (arith, entry-short c.loop-id.gathered, ap length i) in
+    ap (λ (m : ℕ). F m was.inputs) c.loop-id.invariant.timed ∙ ap (F d.mtime) i ∙ sym (cond-true (leb (length (ids_of d)) 64) (F d.mtime (ids_of d)) None (le-leb (length (ids_of d)) 64 l))

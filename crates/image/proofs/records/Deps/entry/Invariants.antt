@@ -1,10 +1,11 @@
-use Rattle.std.proofs.Common.{◌≡◌, ◌-◌, ◌*◌, ◌/◌, ◌++◌, length, drop}
-use Rattle.image.specs.Reading.{words_of}
+use Rattle.std.proofs.Common.{◌≡◌, map, take, w32}
+use Rattle.std.specs.Int.{from_le_bytes}
 use Rattle.image.specs.View.{entry_of}
 use Rattle.image.proofs.records.Deps.entry.Given as goal
 
--- the ids that are gathered, with those that are left, are all of them
-abbrev pub invariant-loop-k : goal.invariant-loop-k
-invariant-loop-k l =
-    ((entry_of l.gathered).mtime ≡ l.self.mtime) × (length (entry_of l.gathered).inputs ≡ l.k)
-    × ((entry_of l.gathered).inputs ++ words_of (length l.self.ids.now / 4 - l.k) (drop (4 * l.k) l.self.ids.now) ≡ words_of (length l.self.ids.now / 4) l.self.ids.now)
+-- the ids so far are gathered
+abbrev pub invariant-loop-id : goal.invariant-loop-id
+invariant-loop-id l = record {
+  timed : (entry_of l.gathered).mtime ≡ l.self.mtime;
+  made : (entry_of l.gathered).inputs ≡ map (from_le_bytes w32) (take l.id-index l.words);
+}

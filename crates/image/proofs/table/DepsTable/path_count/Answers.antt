@@ -1,6 +1,5 @@
-use Rattle.std.proofs.Common.{sym, ◌∙◌}
-use Rattle.image.proofs.Learned.{names-long, view-kept}
+use Rattle.image.proofs.Learned.{view-kept}
 use Rattle.image.proofs.table.DepsTable.path_count.Goals as goal
 
-pub returns : goal.returns
-returns c = record { count = c.len.ensures ∙ sym (names-long c.args.self.now); kept = view-kept c.args.self.now }
+pub returns-clause-kept : goal.returns-clause-kept
+returns-clause-kept c = view-kept c.args.self.now

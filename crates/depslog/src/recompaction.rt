@@ -1,0 +1,100 @@
+// What a recompaction puts in the place of all live bytes: the header, and each entry as a note would tell it in an empty log.
+ghost use Rattle.std.specs.Prelude.{◌≡◌, ◌+◌, ◌<◌, ◌≤◌, true, length, nat_lt, OnOk};
+ghost use Rattle.terms.specs.Lists.{every};
+ghost use Rattle.medium.specs.State.{all};
+ghost use Rattle.image.specs.View.{entry_of};
+ghost use Rattle.image.specs.Tables.{bare};
+ghost use Rattle.image.specs.Learning.{view};
+ghost use Rattle.notes.specs.Notes.{notes_bytes};
+ghost use Rattle.notes.specs.Compacting.{entries_of, compact_bytes, compact_table};
+ghost use Rattle.depslog.specs.Adding.{note_told};
+ghost use Rattle.depslog.specs.Drafting.{DraftedAll, note_at};
+
+use super::added::Added;
+use super::replacing::Contents;
+use super::sink::{Draft, Sink};
+use super::told::Told;
+use image::{DepsEntry, DepsTable, HEADER};
+use medium::{Fault, Medium};
+use notes::name_of;
+use terms::Few;
+
+// The note that tells the entry of the output with an id.
+fn told<'a>(from: &'a DepsTable, id: usize, entry: &DepsEntry) -> Told<'a>
+    requires id { id < length (view from.now).names }
+    requires ids { every (λ i. nat_lt i (length (view from.now).names)) (entry_of entry.now).inputs ≡ true }
+    ensures { note_told result ≡ note_at (view from.now) id (entry_of entry.now) }
+{
+    let output = name_of(from, id);
+    let mut inputs = Few::new(output);
+    for input in entry.inputs() {
+        let _ = inputs.push(name_of(from, *input as usize));
+    }
+    Told {
+        output,
+        mtime: entry.mtime(),
+        inputs,
+    }
+}
+
+// How many bytes there are. `into` is used to know which names are told already.
+fn count_entries(from: &DepsTable, into: &mut DepsTable) -> usize
+    ensures { result ≡ length (compact_bytes (view from.now)) }
+{
+    into.clear();
+    let mut total = HEADER.len();
+    for id in 0..from.path_count() {
+        if let Some(entry) = from.entry(id) {
+            let added = Added::to(into, &told(from, id, &entry));
+            total += added.length();
+            added.learn(into);
+        }
+    }
+    total
+}
+
+// Drafts the notes of all entries, by the outputs' ids, and learns what they tell.
+fn draft_entries<M: Medium>(
+    medium: &mut M,
+    draft: &Draft<M>,
+    from: &DepsTable,
+    into: &mut DepsTable,
+) -> Result<(), Fault>
+    requires on { (M.Medium.state medium.old).power ≡ true }
+    requires room { length (all (M.Medium.state medium.old).draft) + length (notes_bytes bare (entries_of (view from.now))) ≤ (M.Medium.state medium.old).capacity }
+    ensures drafted { DraftedAll (notes_bytes bare (entries_of (view from.now))) (M.Medium.state medium.old) result (M.Medium.state medium.new) }
+    ensures known { OnOk result (view into.new ≡ compact_table (view from.now)) }
+{
+    into.clear();
+    for id in 0..from.path_count() {
+        if let Some(entry) = from.entry(id) {
+            let added = Added::to(into, &told(from, id, &entry));
+            added.put(draft, medium)?;
+            added.learn(into);
+        }
+    }
+    Ok(())
+}
+
+// What a table knows, as a recompacted image. Writing it teaches what that image tells.
+#[derive(Clone, Copy)]
+pub(super) struct Recompacted<'a> {
+    pub(super) from: &'a DepsTable,
+}
+
+impl<M: Medium> Contents<M> for Recompacted<'_> {
+    type Known = DepsTable;
+
+    ghost bytes = { λ r. compact_bytes (view r.from.now) };
+
+    ghost taught = { λ r known. view known ≡ compact_table (view r.from.now) };
+
+    fn length(&self, known: &mut DepsTable) -> usize {
+        count_entries(self.from, known)
+    }
+
+    fn write(&self, medium: &mut M, draft: &Draft<M>, known: &mut DepsTable) -> Result<(), Fault> {
+        draft.put(medium, &HEADER)?;
+        draft_entries(medium, draft, self.from, known)
+    }
+}

@@ -1,4 +1,0 @@
-pub mod Paths
-pub mod Names
-pub mod Told
-pub mod Drafts

@@ -1,2 +1,0 @@
-pub mod Replacing
-pub mod Drafting

@@ -7,7 +7,7 @@ use super::group::Group;
 use super::limits::LONGEST;
 use words::{Token, next_token};
 
-// The words from `at` on.
+// The words from `at` on. A loop, and no `for`: where a token begins is known once the one before it is read, and the mark that ends the words is wanted too.
 pub(super) fn group_at(bytes: &[u8], at: usize) -> Group
     ensures { Gathered bytes.now at result }
 {

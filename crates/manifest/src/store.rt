@@ -9,7 +9,7 @@ use lists::GrowList;
 use terms::Place;
 use words::{Line, Token, next_token};
 
-// Adds the places of the words that stand in a line from `at` on, up to a mark.
+// Adds the places of the words that stand in a line from `at` on, up to a mark. A loop, as in counting them: each token's offset comes from the one before.
 pub(super) fn store(words: &mut GrowList<Place>, line: Line, at: usize)
     requires { length (items words.old) + length (names_of (tokens (drop at (take line.end line.text.now)))) ≤ room words.old }
     ensures stored { Stored line.entry.text.now (items words.old) (items words.new) (names_of (tokens (drop at (take line.entry.end line.entry.text.now)))) }

@@ -49,16 +49,14 @@ fn keep_last(rules: &mut GrowList<Rule>)
     ensures kept { (text : List ℕ) → map (declaration text) (items rules.new) ≡ keeping (map (declaration text) (items rules.old)) }
     ensures room { room rules.new ≡ room rules.old }
 {
-    let count = rules.len();
-    if count == 0 {
+    let Some(last) = rules.as_slice().last().copied() else {
         return;
-    }
-    let held = rules.as_slice();
-    let rule = Rule {
-        name: held[count - 1].name,
-        keeps: true,
     };
-    rules.put(count - 1, rule);
+    let rule = Rule {
+        keeps: true,
+        ..last
+    };
+    rules.put(rules.len() - 1, rule);
 }
 
 impl Reader<'_, '_, '_> {

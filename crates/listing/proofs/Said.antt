@@ -1,17 +1,16 @@
 -- What a line of a listing says, part by part. Assumes nothing.
-use Rattle.std.proofs.Common.{◌≡◌, ℕ, ◌+◌, ◌-◌, ◌<◌, ◌≤◌, Bool, true, false, cond, not, ltb, leb, List, ◌∷◌, length, take, drop, Some, None, Ok, Err, codes, Option, Result, sym, refl, ap, ◌∙◌, arith}
+use Rattle.std.proofs.Common.{◌≡◌, ℕ, ◌+◌, ◌-◌, ◌<◌, ◌≤◌, Bool, true, false, cond, not, leb, List, length, take, drop, Some, None, Ok, Err, codes, Option, sym, refl, ap, ◌∙◌, arith}
 use Rattle.std.specs.Str.{bytes_eq}
 use Rattle.std.proofs.lemmas.Slice.Eq.{bytes_eq-Decides}
 use Rattle.std.proofs.lemmas.List.{drop-take, drop-drop, take-take, take_all, length-take, length-drop}
-use Rattle.std.proofs.lemmas.Bool.{cond-true, cond-false, and_from, and_left, and_right, not_from_false, not_from_true, lt-ltb, le-leb, lt-leb}
-use Rattle.terms.specs.declared.At.{At}
+use Rattle.std.proofs.lemmas.Bool.{cond-true, cond-false, and_from, and_left, and_right, not_from_false, le-leb, lt-leb}
 use Rattle.terms.specs.Lists.{◌▷◌}
+use Rattle.terms.specs.Names.{is_name}
 use Rattle.words.specs.declared.class.Class.TheVariants.{Digit}
 use Rattle.words.specs.Runs.{is_of, front, beyond}
 use Rattle.words.proofs.Spans.{take-front, drop_run}
-use Rattle.listing.specs.declared.fault.ListingFault.{ListingFault}
 use Rattle.listing.specs.declared.fault.ListingFault.TheVariants.{BadLine, PastRows}
-use Rattle.listing.specs.Rows.{Listed, decimal, digits_of, name_of, is_name, is_row, row_of, is_listed, row_added, read_rows}
+use Rattle.listing.specs.Rows.{Listed, decimal, digits_of, name_of, is_row, row_of, is_listed, row_added}
 
 -- a number that was found is the one that was meant
 pub found_number : (b : Bool) (n m : ℕ) → Some m ≡ cond b (Some n) None → (b ≡ true) × (m ≡ n)
@@ -27,9 +26,6 @@ no_number false n e = refl
 module _ (l : List ℕ) where
   none : is_row l ≡ false → None ≡ row_of l
   none e = sym (cond-false (is_row l) (Some (record { name = name_of l; mtime = decimal 0 (digits_of l) })) None e)
-
-  pub zero-first : bytes_eq (take 1 l) (codes "0") ≡ true → None ≡ row_of l
-  zero-first e = none (and_left (not (bytes_eq (take 1 l) (codes "0"))) _ (not_from_true (bytes_eq (take 1 l) (codes "0")) e))
 
   pub no_value : leb 1 (decimal 0 (digits_of l)) ≡ false → None ≡ row_of l
   no_value e = none (and_right (not (bytes_eq (take 1 l) (codes "0"))) _ (and_left (leb 1 (decimal 0 (digits_of l))) _ e))
@@ -115,15 +111,3 @@ module _ (rows : List Listed) (o : Option Listed) (r : Listed) (e : Some r ≡ o
 
   pub row_new : is_listed rows r.name ≡ false → length rows < 512 → Ok (rows ▷ r) ≡ row_added rows o
   row_new f h = sym (ap (row_added rows) (sym e) ∙ cond-false (is_listed rows r.name) _ _ f ∙ cond-false (leb 512 (length rows)) _ _ (lt-leb 512 (length rows) h))
-
-pub pushed : {T : Type 0} (old new : List T) (x : T) (r : Bool) (room : ℕ) → length old < room → r ≡ ltb (length old) room → new ≡ cond r (old ▷ x) old → new ≡ old ▷ x
-pushed old new x r room h e f = f ∙ cond-true r (old ▷ x) old (e ∙ lt-ltb (length old) room h)
-
--- All lines ---------------------------------------------------------------------------------------------------------------
-
-module _ (line : ℕ) (l : List ℕ) (ls : List (List ℕ)) (rows : List Listed) where
-  pub row_read : (more : List Listed) → Ok more ≡ row_added rows (row_of l) → read_rows line (l ∷ ls) rows ≡ read_rows (line + 1) ls more
-  row_read more e = ap (λ (r : Result (List Listed) ListingFault). elim r as (λ _. Result (List Listed) (At ListingFault)) [ Ok m ↦ read_rows (line + 1) ls m | Err f ↦ Err (record { offset = line; value = f }) ]) (sym e)
-
-  pub row_fault : (f : ListingFault) → Err f ≡ row_added rows (row_of l) → read_rows line (l ∷ ls) rows ≡ Err (record { offset = line; value = f })
-  row_fault f e = ap (λ (r : Result (List Listed) ListingFault). elim r as (λ _. Result (List Listed) (At ListingFault)) [ Ok m ↦ read_rows (line + 1) ls m | Err g ↦ Err (record { offset = line; value = g }) ]) (sym e)

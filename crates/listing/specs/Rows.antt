@@ -2,8 +2,9 @@
 use Rattle.std.specs.Prelude.{ℕ, ◌+◌, ◌-◌, ◌*◌, Bool, cond, not, ◌&&◌, List, [], ◌∷◌, length, take, drop, Some, None, Ok, Err, codes, Option, Result, nat_le}
 use Rattle.std.specs.Str.{bytes_eq}
 use Rattle.terms.specs.declared.At.{At}
-use Rattle.terms.specs.Lists.{every, some, ◌▷◌}
-use Rattle.words.specs.declared.class.Class.TheVariants.{Digit, Nonzero}
+use Rattle.terms.specs.Lists.{some, ◌▷◌}
+use Rattle.terms.specs.Names.{is_name}
+use Rattle.words.specs.declared.class.Class.TheVariants.{Digit}
 use Rattle.words.specs.Lines.{lines_of}
 use Rattle.words.specs.Runs.{is_of, front, beyond}
 use Rattle.listing.specs.declared.fault.ListingFault.{ListingFault}
@@ -25,10 +26,6 @@ digits_of l = front (is_of Digit) l
 
 abbrev pub name_of : List ℕ → List ℕ
 name_of l = drop 1 (beyond (is_of Digit) l)
-
--- a name of 1 to 120 nonzero bytes
-abbrev pub is_name : List ℕ → Bool
-is_name n = nat_le 1 (length n) && (nat_le (length n) 120 && every (is_of Nonzero) n)
 
 -- A decimal from 1 to 2^63 − 1 without leading zeros, one space, and a name.
 abbrev pub is_row : List ℕ → Bool

@@ -5,9 +5,9 @@ use Rattle.terms.specs.declared.Refusal.{Refusal}
 use Rattle.terms.specs.declared.Refusal.TheVariants as refusal
 use Rattle.terms.specs.Places.{at_place}
 use Rattle.listing.specs.declared.fault.ListingFault.{ListingFault}
-use Rattle.listing.specs.declared.fault.ListingFault.TheVariants.{BadLine, PastRows}
 use Rattle.listing.specs.declared.listing.Listing.{Listing}
 use Rattle.listing.specs.declared.row.Row.{Row}
+use Rattle.listing.specs.Faults.{listing_refusal}
 use Rattle.listing.specs.Rows.{Listed}
 
 abbrev pub listed : List ℕ → Row → Listed
@@ -17,11 +17,6 @@ listed text r = record { name = at_place text r.name; mtime = r.mtime }
 abbrev pub rows_told : {A F : Type 0} → Result A F → List Listed → Result (List Listed) F
 rows_told (Ok x) rows = Ok rows
 rows_told (Err f) rows = Err f
-
--- the refusal for each kind of fault, with its line
-abbrev pub listing_refusal : ℕ → ListingFault → Refusal
-listing_refusal line BadLine = refusal.ListingLine line
-listing_refusal line PastRows = refusal.PastLimit line
 
 abbrev pub listing_refused : Result (List Listed) (At ListingFault) → Result (List Listed) Refusal
 listing_refused (Ok rows) = Ok rows

@@ -9,8 +9,8 @@ pub(super) fn number(digits: &[u8]) -> Option<u64>
     ensures { result ≡ (if nat_le (decimal 0 digits.now) 9223372036854775807 then Some (decimal 0 digits.now) else None) }
 {
     let mut value = 0u64;
-    'digits: for i in 0..digits.len() {
-        let next = u128::from(value) * 10 + u128::from(digits[i].saturating_sub(b'0'));
+    'digits: for digit in digits {
+        let next = u128::from(value) * 10 + u128::from(digit.saturating_sub(b'0'));
         if next > LATEST {
             return None;
         }

@@ -1,6 +1,7 @@
 -- The words of a statement that is added. Assumes nothing.
 use Rattle.std.proofs.Common.{◌≡◌, ℕ, ◌+◌, ◌≤◌, false, ltb, List, [], ◌∷◌, ◌++◌, map, length, take, drop, sym, refl, ap, ◌∙◌, arith}
 use Rattle.std.proofs.lemmas.List.{append_assoc, append-nil, length-append, length-map, length-drop, take-append-drop, take-append-le, drop-append-le, take_at, drop_at}
+use Rattle.std.proofs.lemmas.List.Elements.{All-head, All-tail, All-push, All-weaker}
 use Rattle.std.proofs.lemmas.Bool.{or_parts, ltb-false}
 use Rattle.terms.specs.declared.Place.{Place}
 use Rattle.terms.specs.Lists.{◌▷◌}
@@ -8,7 +9,7 @@ use Rattle.words.specs.Spelling.{name_at}
 use Rattle.manifest.specs.declared.rule.Statement.{Statement}
 use Rattle.manifest.specs.Building.{Build}
 use Rattle.manifest.specs.Books.{Making, is_over}
-use Rattle.manifest.specs.Kept.{words_end, Within}
+use Rattle.manifest.specs.Sound.{words_end, Within}
 use Rattle.manifest.specs.Stored.{Stored}
 use Rattle.manifest.specs.Views.{names, making}
 
@@ -95,12 +96,12 @@ making-same text old z s h =
 pub makings_same : (text : List ℕ) (old new z : List Place) (ss : List Statement) → new ≡ old ++ z → Within (length old) ss → map (making text new) ss ≡ map (making text old) ss
 makings_same text old new z [] e w = refl
 makings_same text old new z (s ∷ ss) e w =
-    ap (λ (m : Making). m ∷ map (making text new) ss) (ap (λ (ps : List Place). making text ps s) e ∙ making-same text old z s w.0) ∙
-    ap (λ (ms : List Making). making text old s ∷ ms) (makings_same text old new z ss e w.1)
+    let P : Statement → Type 0 = λ s. words_end s ≤ length old in
+    ap (λ (m : Making). m ∷ map (making text new) ss) (ap (λ (ps : List Place). making text ps s) e ∙ making-same text old z s (All-head P s ss w)) ∙
+    ap (λ (ms : List Making). making text old s ∷ ms) (makings_same text old new z ss e (All-tail P s ss w))
 
 pub within_more : (m n : ℕ) (ss : List Statement) (s : Statement) → m ≤ n → Within m ss → words_end s ≤ n → Within n (ss ▷ s)
-within_more m n [] s h w e = (e, tt)
-within_more m n (x ∷ ss) s h w e = (omega (arith, w.0), within_more m n ss s h w.1 e)
+within_more m n ss s h w e = All-push (λ x. words_end x ≤ n) ss s (All-weaker (λ x. words_end x ≤ m) (λ x. words_end x ≤ n) (λ x p. omega arith) ss w) e
 
 -- Limits -------------------------------------------------------------------------------------------------------------------
 

@@ -1,8 +1,8 @@
 -- A binding, by where its parts stand. Assumes nothing.
-use Rattle.std.proofs.Common.{◌≡◌, ℕ, ◌+◌, ◌-◌, ◌<◌, true, false, not, List, [], ◌∷◌, length, take, drop, Some, None, codes, sym, refl, ap, ◌∙◌, inl, inr, arith}
+use Rattle.std.proofs.Common.{◌≡◌, ℕ, ◌+◌, ◌-◌, true, false, not, List, [], ◌∷◌, length, take, drop, Some, None, codes, sym, refl, ap, ◌∙◌, arith}
 use Rattle.std.specs.Str.{bytes_eq}
-use Rattle.std.proofs.lemmas.List.{drop-drop, drop_all, take_all, length-drop}
-use Rattle.std.proofs.lemmas.Bool.{cond-true, cond-false, and_from, and_left, and_right, not_from_false, not_from_true, cases_lt, both_ways}
+use Rattle.std.proofs.lemmas.List.{drop-drop, take_all, length-drop}
+use Rattle.std.proofs.lemmas.Bool.{cond-true, cond-false, and_from, and_left, and_right, not_from_false, not_from_true}
 use Rattle.terms.specs.Lists.{empty, every}
 use Rattle.words.specs.declared.class.Class.TheVariants.{Space, InKey, Shown}
 use Rattle.words.specs.Runs.{is_of, front, beyond}
@@ -46,9 +46,6 @@ module _ (xs : List ℕ) (at key past equals : ℕ) (k : key ≡ at + length (fr
   none : is_binding (drop at xs) ≡ false → None ≡ binding_of (drop at xs)
   none e = sym (cond-false (is_binding (drop at xs)) (Some (binds_deps (drop at xs))) None e)
 
-  pub not-shown : every (is_of Shown) (drop at xs) ≡ false → None ≡ binding_of (drop at xs)
-  not-shown e = none (and_left (every (is_of Shown) (drop at xs)) _ e)
-
   pub no_key : past ≡ key → None ≡ binding_of (drop at xs)
   no_key e =
       none (and_right (every (is_of Shown) (drop at xs)) _
@@ -66,11 +63,3 @@ module _ (xs : List ℕ) (at key past equals : ℕ) (k : key ≡ at + length (fr
       (and_from (not (empty (key_of (drop at xs)))) (begins (codes "=") (from_equals (drop at xs)))
       (not_from_false (empty (key_of (drop at xs))) (empty-some (key_of (drop at xs)) (λ z. n (omega (arith, key_long)))))
       (ap (λ ys. bytes_eq (take 1 ys) (61 ∷ [])) (sym from_equals_lem) ∙ e))))
-
--- where a `=` was read, the bytes go on
-pub equals_within : (xs : List ℕ) (equals : ℕ) → bytes_eq (take 1 (drop equals xs)) (61 ∷ []) ≡ true → equals < length xs
-equals_within xs equals e =
-    elim (cases_lt equals (length xs)) [
-      | inl h ↦ h
-      | inr h ↦ absurd (both_ways _ (ap (λ ys. bytes_eq (take 1 ys) (61 ∷ [])) (drop_all equals xs h)) e)
-    ]

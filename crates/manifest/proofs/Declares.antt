@@ -1,9 +1,8 @@
 -- Rules that are declared, and statements that are added. Assumes nothing.
-use Rattle.std.proofs.Common.{◌≡◌, ℕ, ◌<◌, ◌≤◌, Bool, true, false, cond, ◌||◌, ltb, leb, List, length, is_some, Some, None, Ok, Err, Option, Result, sym, refl, ap, ◌∙◌}
+use Rattle.std.proofs.Common.{◌≡◌, ℕ, ◌<◌, ◌≤◌, true, false, cond, ◌||◌, leb, List, length, is_some, Some, None, Ok, Err, Option, Result, sym, refl, ap, ◌∙◌}
 use Rattle.std.proofs.lemmas.Bool.{cond-true, cond-false, lt-ltb, le-leb, lt-leb, le-ltb, or_left, or_right, or_from, both_ways}
-use Rattle.terms.specs.Lists.{◌▷◌}
 use Rattle.manifest.specs.declared.fault.Fault.{Fault}
-use Rattle.manifest.specs.declared.fault.Fault.TheVariants.{RuleDeclared, PastLimit}
+use Rattle.manifest.specs.declared.fault.Fault.TheVariants.{PastLimit}
 use Rattle.manifest.specs.Building.{Build}
 use Rattle.manifest.specs.Books.{Book, Reading, is_over, add_rule, declared_by, stated_by}
 use Rattle.manifest.specs.Groups.{is_long}
@@ -11,10 +10,6 @@ use Rattle.manifest.specs.Groups.{is_long}
 pub none_from : {A : Type 0} (o : Option A) → is_some o ≡ false → o ≡ None
 none_from None e = refl
 none_from (Some x) e = absurd (both_ways true e refl)
-
--- an element more, where there is memory for it
-pub pushed : {T : Type 0} (old new : List T) (x : T) (r : Bool) (room : ℕ) → length old < room → r ≡ ltb (length old) room → new ≡ cond r (old ▷ x) old → new ≡ old ▷ x
-pushed old new x r room h e f = f ∙ cond-true r (old ▷ x) old (e ∙ lt-ltb (length old) room h)
 
 module _ (b : Book) (name : List ℕ) (o : Option ℕ) (e : o ≡ None) where
   pub declared_many : 64 ≤ length b.rules → Err PastLimit ≡ declared_by b name o
@@ -31,16 +26,10 @@ module _ (b : Book) (name : List ℕ) (o : Option ℕ) (e : o ≡ None) where
       (or_from (leb 64 (length b.rules)) (is_long name) (lt-leb 64 (length b.rules) h) (le-ltb 120 (length name) k)))
 
 module _ (line : ℕ) (b : Book) (s : Build) (o : Option ℕ) where
-  pub stated_none : o ≡ None → Err RuleDeclared ≡ stated_by line b s o
-  stated_none e = sym (ap (stated_by line b s) e)
-
   module _ (rule : ℕ) (e : o ≡ Some rule) where
     pub stated-many : 128 ≤ length b.statements → Err PastLimit ≡ stated_by line b s o
     stated-many h =
         sym (ap (stated_by line b s) e ∙ cond-true (leb 128 (length b.statements) || is_over s) _ _ (or_left (leb 128 (length b.statements)) (is_over s) (le-leb 128 (length b.statements) h)))
-
-    pub stated-over : is_over s ≡ true → Err PastLimit ≡ stated_by line b s o
-    stated-over h = sym (ap (stated_by line b s) e ∙ cond-true (leb 128 (length b.statements) || is_over s) _ _ (or_right (leb 128 (length b.statements)) (is_over s) h))
 
     pub stated-within : (x : Result Reading Fault) → length b.statements < 128 → is_over s ≡ false → stated_by line b s (Some rule) ≡ cond (leb 128 (length b.statements) || is_over s) (Err PastLimit) x → x ≡ stated_by line b s o
     stated-within x h k f =

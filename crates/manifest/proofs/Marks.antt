@@ -1,5 +1,5 @@
 -- Names and marks, token by token. Assumes nothing.
-use Rattle.std.proofs.Common.{◌≡◌, ℕ, ◌+◌, ◌<◌, ◌≤◌, Bool, true, false, cond, ◌||◌, List, [], ◌∷◌, length, drop, Some, None, Option, sym, refl, ap, ◌∙◌, arith}
+use Rattle.std.proofs.Common.{◌≡◌, ℕ, ◌+◌, ◌<◌, ◌≤◌, Bool, true, false, ◌||◌, List, [], ◌∷◌, length, drop, Some, None, Option, sym, refl, ap, ◌∙◌, arith}
 use Rattle.std.proofs.lemmas.Bool.{cond-true, cond-false}
 use Rattle.terms.specs.Lists.{empty, some}
 use Rattle.words.specs.declared.spelling.Word.{Word}
@@ -10,8 +10,8 @@ use Rattle.words.specs.Spelling.{name_at}
 use Rattle.words.specs.Tokens.{Lexeme, named, tokens, front_token}
 use Rattle.words.proofs.Lexemes.{tokens_read, no_token}
 use Rattle.manifest.specs.declared.group.Group.{Group}
-use Rattle.manifest.proofs.Bound.{empty-none, empty-some}
-use Rattle.manifest.specs.Building.{is_colon, is_bar, is_bars, names_of, marks_of, following, behind, Inputs, inputs_of, with_rule, with_colon, build_of, rule_of}
+use Rattle.manifest.proofs.Bound.{empty-some}
+use Rattle.manifest.specs.Building.{is_bar, is_bars, names_of, marks_of, following, behind, Inputs, inputs_of, with_rule, with_colon, build_of, rule_of}
 use Rattle.manifest.specs.Groups.{is_long, rest, group_names, Sums, Gathered}
 
 -- the tokens from an offset on, by the token that was read there
@@ -105,35 +105,6 @@ turn_mark xs at here next n long t e m u =
 -- Behind marks -------------------------------------------------------------------------------------------------------------
 
 module _ (xs : List ℕ) (next : ℕ) where
-  pub bar_follows : (t : Token) → t ≡ token.Bar → following is_bar (rest xs t next) ≡ names_of (tokens (drop next xs))
-  bar_follows t e = ap (λ u. following is_bar (rest xs u next)) e
-
-  pub bar-behind : (t : Token) → t ≡ token.Bar → behind is_bar (rest xs t next) ≡ marks_of (tokens (drop next xs))
-  bar-behind t e = ap (λ u. behind is_bar (rest xs u next)) e
-
-  pub bars_follows : (t : Token) → t ≡ token.Bars → following is_bars (rest xs t next) ≡ names_of (tokens (drop next xs))
-  bars_follows t e = ap (λ u. following is_bars (rest xs u next)) e
-
-  pub bars-behind : (t : Token) → t ≡ token.Bars → behind is_bars (rest xs t next) ≡ marks_of (tokens (drop next xs))
-  bars-behind t e = ap (λ u. behind is_bars (rest xs u next)) e
-
-  -- where another mark stands
-  pub no_bar : (t : Token) → (t ≡ token.Bar → ⊥) → ([] ≡ following is_bar (rest xs t next)) × (rest xs t next ≡ behind is_bar (rest xs t next))
-  no_bar token.Colon n = (refl, refl)
-  no_bar token.Bar n = absurd (n refl)
-  no_bar token.Bars n = (refl, refl)
-  no_bar token.Wrong n = (refl, refl)
-  no_bar (token.Word w) n = (refl, refl)
-  no_bar token.End n = (refl, refl)
-
-  pub no_bars : (t : Token) → (t ≡ token.Bars → ⊥) → ([] ≡ following is_bars (rest xs t next)) × (rest xs t next ≡ behind is_bars (rest xs t next))
-  no_bars token.Colon n = (refl, refl)
-  no_bars token.Bar n = (refl, refl)
-  no_bars token.Bars n = absurd (n refl)
-  no_bars token.Wrong n = (refl, refl)
-  no_bars (token.Word w) n = (refl, refl)
-  no_bars token.End n = (refl, refl)
-
   pub at_end : (t : Token) → t ≡ token.End → empty (rest xs t next) ≡ true
   at_end t e = ap (λ u. empty (rest xs u next)) e
 
@@ -159,11 +130,6 @@ module _ (T A B C : List Lexeme) (P I O : List (List ℕ)) (p : P ≡ names_of T
 
   pub inputs-none : empty C ≡ false → None ≡ inputs_of T
   inputs-none e = sym (cond-false (empty (behind is_bars (behind is_bar (marks_of T)))) _ None (ap empty over ∙ e))
-
-pub no_outputs : (os : List (List ℕ)) (M : List Lexeme) → empty os ≡ true → None ≡ with_colon os M
-no_outputs os [] e = refl
-no_outputs os (t ∷ ts) e =
-    elim (is_colon t) as (λ v. None ≡ cond v (cond (empty os) None (with_rule os ts)) None) [ true ↦ sym (cond-true (empty os) None (with_rule os ts) e) | false ↦ refl ]
 
 module _ (xs : List ℕ) (next : ℕ) (os : List (List ℕ)) where
   pub no_colon : (t : Token) → (t ≡ token.Colon → ⊥) → None ≡ with_colon os (rest xs t next)
@@ -192,9 +158,6 @@ build_as xs at g e = ap (λ (k : ℕ). with_colon (names_of (tokens (drop k xs))
 -- and whether it has words
 pub some_words : (xs : List ℕ) (g : Group) → Sums xs g → (g.count ≡ 0 → ⊥) → empty (group_names xs g) ≡ false
 some_words xs g s n = empty-some (group_names xs g) (λ z. n (s.count ∙ z))
-
-pub no_words : (xs : List ℕ) (g : Group) → Sums xs g → g.count ≡ 0 → empty (group_names xs g) ≡ true
-no_words xs g s e = empty-none (group_names xs g) (sym s.count ∙ e)
 
 -- One word ------------------------------------------------------------------------------------------------------------------
 

@@ -1,9 +1,9 @@
 -- Adding places, one by one. Assumes nothing.
-use Rattle.std.proofs.Common.{◌≡◌, ℕ, suc, ◌+◌, ◌-◌, ◌≤◌, Bool, true, cond, ltb, List, [], ◌∷◌, ◌++◌, map, length, take, drop, sym, ap, ◌∙◌, subst, arith}
+use Rattle.std.proofs.Common.{◌≡◌, ℕ, suc, ◌+◌, ◌-◌, ◌≤◌, if◌then◌else◌, ltb, List, [], ◌∷◌, ◌++◌, map, length, take, drop, sym, ap, ◌∙◌, subst, arith}
 use Rattle.std.proofs.lemmas.List.{append_assoc, append-nil, length-append, length-map, length-drop, length-take, take-take, drop-take, take-append-le, drop-append-le, take_all, drop_all, map-append}
-use Rattle.std.proofs.lemmas.Bool.{lt-ltb, cond-true}
 use Rattle.terms.specs.declared.Place.{Place}
 use Rattle.terms.specs.Lists.{◌▷◌}
+use Rattle.lists.proofs.Pushed.{pushed}
 use Rattle.words.specs.Spelling.{unescaped, name_at}
 use Rattle.manifest.specs.Stored.{Stored}
 
@@ -35,12 +35,11 @@ pub storing_long : (text : List ℕ) (old so : List Place) (left all : List (Lis
 storing_long text old so left all s =
     omega (arith, s.longer, length-drop (length old) so, length-map (drop (length old) so) (name_at text), length-append (map (name_at text) (drop (length old) so)) left, ap length s.names)
 
-pub storing_more : (text : List ℕ) (old so new : List Place) (p : Place) (name : List ℕ) (left all : List (List ℕ)) (r : Bool) (room : ℕ) →
-    name_at text p ≡ name → r ≡ ltb (length so) room → new ≡ cond r (so ▷ p) so → length old + length all ≤ room → Storing text old so (name ∷ left) all → Storing text old new left all
-storing_more text old so new p name left all r room n e f h s =
+pub storing_more : (text : List ℕ) (old so new : List Place) (p : Place) (name : List ℕ) (left all : List (List ℕ)) (room : ℕ) →
+    name_at text p ≡ name → new ≡ (if ltb (length so) room then (so ▷ p) else so) → length old + length all ≤ room → Storing text old so (name ∷ left) all → Storing text old new left all
+storing_more text old so new p name left all room n f h s =
     let long : length so + suc (length left) ≡ length old + length all = storing_long text old so (name ∷ left) all s in
-    let ok : r ≡ true = e ∙ lt-ltb (length so) room (omega arith) in
-    let g : new ≡ so ▷ p = f ∙ cond-true r (so ▷ p) so ok in
+    let g : new ≡ so ▷ p = pushed so new p room (omega arith) f in
     subst (λ (qs : List Place). Storing text old qs left all) (sym g) (record {
       front = take-append-le (length old) so (p ∷ []) s.longer ∙ s.front;
       longer = omega (arith, length-append so (p ∷ []), s.longer);

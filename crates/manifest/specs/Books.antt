@@ -7,8 +7,8 @@ use Rattle.words.specs.Lines.{lines_of}
 use Rattle.words.specs.Tokens.{tokens}
 use Rattle.manifest.specs.declared.fault.Fault.{Fault}
 use Rattle.manifest.specs.declared.fault.Fault.TheVariants.{NotUnderstood, RuleDeclared, PastLimit, MadeTwice}
-use Rattle.manifest.specs.declared.fault.Owner.{Owner}
-use Rattle.manifest.specs.declared.fault.Owner.TheVariants.{Nobody, LastRule, LastStatement}
+use Rattle.manifest.specs.declared.owner.Owner.{Owner}
+use Rattle.manifest.specs.declared.owner.Owner.TheVariants.{LastRule, LastStatement}
 use Rattle.manifest.specs.declared.kind.Kind.{Kind}
 use Rattle.manifest.specs.declared.kind.Kind.TheVariants as kind
 use Rattle.manifest.specs.Kinds.{kind_of}
@@ -34,13 +34,13 @@ pub record Book : Type 0 where
   pub rules : List Declaration
   pub statements : List Making
 
--- what was read so far, and what an indented line would belong to
+-- what was read so far, and what an indented line would belong to, if to anything
 pub record Reading : Type 0 where
   pub book : Book
-  pub owner : Owner
+  pub owner : Option Owner
 
 abbrev pub blank : Reading
-blank = record { book = record { rules = []; statements = [] }; owner = Nobody }
+blank = record { book = record { rules = []; statements = [] }; owner = None }
 
 -- Looking up -------------------------------------------------------------------------------------------------------------
 
@@ -70,11 +70,11 @@ is_over b =
     || (some is_long b.outputs || (some is_long b.inputs.plain || (some is_long b.inputs.implicit || some is_long b.inputs.order))))
 
 abbrev pub add_rule : Book → List ℕ → Reading
-add_rule b name = record { book = record { rules = b.rules ▷ record { name = name; keeps = false }; statements = b.statements }; owner = LastRule }
+add_rule b name = record { book = record { rules = b.rules ▷ record { name = name; keeps = false }; statements = b.statements }; owner = Some LastRule }
 
 abbrev pub add_statement : ℕ → Book → ℕ → Build → Reading
 add_statement line b rule s =
-    record { book = record { rules = b.rules; statements = b.statements ▷ record { line = line; rule = rule; outputs = s.outputs; inputs = s.inputs } }; owner = LastStatement }
+    record { book = record { rules = b.rules; statements = b.statements ▷ record { line = line; rule = rule; outputs = s.outputs; inputs = s.inputs } }; owner = Some LastStatement }
 
 -- A rule is declared once; there are at most 64, with names of at most 120 bytes.
 abbrev pub declared_by : Book → List ℕ → Option ℕ → Result Reading Fault
@@ -102,13 +102,13 @@ keeping rs = let last = length rs - 1 in slice_set rs last (record { name = (get
 
 abbrev pub bound_by : Book → Option Bool → Result Reading Fault
 bound_by b None = Err NotUnderstood
-bound_by b (Some deps) = Ok (record { book = record { rules = cond deps (keeping b.rules) b.rules; statements = b.statements }; owner = LastRule })
+bound_by b (Some deps) = Ok (record { book = record { rules = cond deps (keeping b.rules) b.rules; statements = b.statements }; owner = Some LastRule })
 
 -- An indented line belongs to the last rule or statement; under a statement it is skipped.
-abbrev pub read_indented : List ℕ → Book → Owner → Result Reading Fault
-read_indented l b Nobody = Err NotUnderstood
-read_indented l b LastRule = bound_by b (binding_of l)
-read_indented l b LastStatement = Ok (record { book = b; owner = LastStatement })
+abbrev pub read_indented : List ℕ → Book → Option Owner → Result Reading Fault
+read_indented l b None = Err NotUnderstood
+read_indented l b (Some LastRule) = bound_by b (binding_of l)
+read_indented l b (Some LastStatement) = Ok (record { book = b; owner = Some LastStatement })
 
 abbrev pub read_as : ℕ → List ℕ → Reading → Kind → Result Reading Fault
 read_as line l s kind.Skipped = Ok s

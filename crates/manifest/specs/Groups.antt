@@ -1,5 +1,5 @@
 -- What the words and marks that the code has read stand for. Assumes nothing.
-use Rattle.std.specs.Prelude.{◌≡◌, ℕ, ◌+◌, ◌≤◌, Bool, List, [], ◌∷◌, length, drop, Some, None, Option, nat_lt}
+use Rattle.std.specs.Prelude.{◌≡◌, ℕ, ◌+◌, ◌≤◌, Bool, false, List, [], ◌∷◌, length, drop, Some, None, Option, nat_lt}
 use Rattle.terms.specs.Lists.{some}
 use Rattle.words.specs.declared.spelling.Word.{Word}
 use Rattle.words.specs.declared.token.Token.{Token}
@@ -9,7 +9,7 @@ use Rattle.words.specs.Tokens.{Lexeme, colon, bar, bars, wrong, named, tokens}
 use Rattle.manifest.specs.declared.group.Group.{Group}
 use Rattle.manifest.specs.declared.built.Built.{Built}
 use Rattle.manifest.specs.declared.built.BuiltInputs.{BuiltInputs}
-use Rattle.manifest.specs.Building.{Inputs, Build, names_of, marks_of}
+use Rattle.manifest.specs.Building.{Inputs, Build, is_colon, is_bar, is_bars, names_of, marks_of}
 
 -- a name of over 120 bytes
 abbrev pub is_long : List ℕ → Bool
@@ -23,6 +23,23 @@ rest bytes token.Bars next = bars ∷ tokens (drop next bytes)
 rest bytes token.Wrong next = wrong ∷ tokens (drop next bytes)
 rest bytes (token.Word w) next = named (name_at bytes w.place) ∷ tokens (drop next bytes)
 rest bytes token.End next = []
+
+-- the two marks that part the inputs of a statement, and what they are in a line
+abbrev pub PartsInputs : Token → Type 0
+PartsInputs token.Colon = ⊥
+PartsInputs token.Bar = Unit {0}
+PartsInputs token.Bars = Unit {0}
+PartsInputs token.Wrong = ⊥
+PartsInputs (token.Word w) = ⊥
+PartsInputs token.End = ⊥
+
+abbrev pub is_mark : Token → Lexeme → Bool
+is_mark token.Colon t = is_colon t
+is_mark token.Bar t = is_bar t
+is_mark token.Bars t = is_bars t
+is_mark token.Wrong t = false
+is_mark (token.Word w) t = false
+is_mark token.End t = false
 
 -- the names of some words
 abbrev pub group_names : List ℕ → Group → List (List ℕ)

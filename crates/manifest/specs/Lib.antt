@@ -1,9 +1,11 @@
 pub mod Bindings
 pub mod Books
 pub mod Building
+pub mod Faults
 pub mod Groups
 pub mod Kept
 pub mod Kinds
 pub mod Outcomes
+pub mod Sound
 pub mod Stored
 pub mod Views

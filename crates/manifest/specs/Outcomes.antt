@@ -4,17 +4,10 @@ use Rattle.terms.specs.declared.At.{At}
 use Rattle.terms.specs.declared.Refusal.{Refusal}
 use Rattle.terms.specs.declared.Refusal.TheVariants as refusal
 use Rattle.manifest.specs.declared.fault.Fault.{Fault}
-use Rattle.manifest.specs.declared.fault.Fault.TheVariants.{NotUnderstood, RuleDeclared, PastLimit, MadeTwice}
 use Rattle.manifest.specs.declared.manifest.Manifest.{Manifest}
 use Rattle.manifest.specs.Books.{Book}
+use Rattle.manifest.specs.Faults.{fault_refusal}
 use Rattle.manifest.specs.Views.{declaration, making}
-
--- the refusal for each kind of fault, with its line
-abbrev pub fault_refusal : ℕ → Fault → Refusal
-fault_refusal line NotUnderstood = refusal.ManifestLine line
-fault_refusal line RuleDeclared = refusal.RuleDeclared line
-fault_refusal line PastLimit = refusal.PastLimit line
-fault_refusal line MadeTwice = refusal.MadeTwice line
 
 abbrev pub refusal_of : At Fault → Refusal
 refusal_of f = fault_refusal f.offset f.value

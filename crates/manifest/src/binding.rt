@@ -3,11 +3,10 @@ ghost use Rattle.std.specs.Prelude.{◌≡◌, ◌≤◌, length, drop};
 ghost use Rattle.manifest.specs.Bindings.{binding_of};
 
 use lists::part;
-use words::{Class, all_of, begins, same_bytes, span_end};
+use words::{Class, all_of, begins, span_end};
 
-// Whether the binding that stands from `at` on is `deps = gcc`; none where it is no binding.
+// Whether the binding that stands from `at` on is `deps = gcc`; none where it is no binding. A bool within: no other binding is told apart from the rest.
 pub(super) fn binding_at(bytes: &[u8], at: usize) -> Option<bool>
-    requires { at ≤ length bytes.now }
     ensures { result ≡ binding_of (drop at bytes.now) }
 {
     let key = span_end(bytes, at, Class::Space);
@@ -23,7 +22,7 @@ pub(super) fn binding_at(bytes: &[u8], at: usize) -> Option<bool>
         return None;
     }
     let value = span_end(bytes, equals + 1, Class::Space);
-    let deps = same_bytes(part(bytes, key, past - key), b"deps");
-    let gcc = same_bytes(part(bytes, value, bytes.len()), b"gcc");
+    let deps = part(bytes, key, past - key) == b"deps".as_slice();
+    let gcc = part(bytes, value, bytes.len()) == b"gcc".as_slice();
     Some(deps && gcc)
 }

@@ -1,4 +1,4 @@
-// Reading the words of a build line and of a rule line.
+// Reading the words of a build line and of a rule line: of bytes from an offset on, and no slice from there on, since the places count from the bytes' start.
 ghost use Rattle.std.specs.Prelude.{◌≡◌, drop};
 ghost use Rattle.std.specs.Option.{option_map};
 ghost use Rattle.words.specs.Tokens.{tokens};
@@ -6,7 +6,7 @@ ghost use Rattle.manifest.specs.Building.{inputs_of, build_of, rule_of};
 ghost use Rattle.manifest.specs.Groups.{inputs_shown, built_shown, word_name, InputSums, BuildSums, WordSums};
 
 use super::built::{Built, BuiltInputs};
-use super::groups::{behind_bar, behind_bars, group_at};
+use super::groups::{behind, group_at};
 use super::limits::LEAST;
 use words::{Token, Word, next_token};
 
@@ -16,8 +16,8 @@ fn inputs_at(bytes: &[u8], at: usize) -> Option<BuiltInputs>
     ensures sums { InputSums bytes.now result }
 {
     let plain = group_at(bytes, at);
-    let implicit = behind_bar(bytes, plain);
-    let order = behind_bars(bytes, implicit);
+    let implicit = behind(bytes, plain, Token::Bar);
+    let order = behind(bytes, implicit, Token::Bars);
     match order.mark {
         Token::End => Some(BuiltInputs {
             plain,
@@ -44,14 +44,12 @@ pub(super) fn build_at(bytes: &[u8], at: usize) -> Option<Built>
     let Token::Word(rule) = token else {
         return None;
     };
-    match inputs_at(bytes, next) {
-        Some(inputs) => Some(Built {
-            outputs,
-            rule,
-            inputs,
-        }),
-        None => None,
-    }
+    let inputs = inputs_at(bytes, next)?;
+    Some(Built {
+        outputs,
+        rule,
+        inputs,
+    })
 }
 
 // What stands behind `rule `: one word; none where it is not understood.

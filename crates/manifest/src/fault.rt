@@ -1,5 +1,10 @@
 // What is wrong with a line of a manifest.
-#[derive(Clone, Copy, PartialEq, Eq)]
+ghost use Rattle.std.specs.Prelude.{◌≡◌};
+ghost use Rattle.manifest.specs.Faults.{fault_refusal};
+
+use terms::Refusal;
+
+#[derive(Clone, Copy, PartialEq, Eq, Debug)]
 pub enum Fault {
     // It is not understood.
     NotUnderstood,
@@ -11,10 +16,16 @@ pub enum Fault {
     MadeTwice,
 }
 
-// What an indented line belongs to.
-#[derive(Clone, Copy, PartialEq, Eq)]
-pub enum Owner {
-    Nobody,
-    LastRule,
-    LastStatement,
+impl Fault {
+    // The refusal for this fault in a line. No `From` makes it: the fault beside its line is an `At`, which is of another crate, as the refusal is.
+    pub fn in_line(self, line: usize) -> Refusal
+        ensures { result ≡ fault_refusal line self }
+    {
+        match self {
+            Fault::NotUnderstood => Refusal::ManifestLine(line),
+            Fault::RuleDeclared => Refusal::RuleDeclared(line),
+            Fault::PastLimit => Refusal::PastLimit(line),
+            Fault::MadeTwice => Refusal::MadeTwice(line),
+        }
+    }
 }

@@ -1,13 +1,13 @@
 // Counting words, up to a mark.
 ghost use Rattle.std.specs.Prelude.{◌≡◌, []};
-ghost use Rattle.manifest.specs.Building.{is_bar, is_bars, following, behind};
-ghost use Rattle.manifest.specs.Groups.{rest, group_names, Sums, Gathered};
+ghost use Rattle.manifest.specs.Building.{following, behind};
+ghost use Rattle.manifest.specs.Groups.{rest, group_names, is_mark, PartsInputs, Sums, Gathered};
 
 use super::group::Group;
 use super::limits::LONGEST;
 use words::{Token, next_token};
 
-// The words from `at` on.
+// The words from `at` on. A loop, and no `for`: where a token begins is known once the one before it is read, and the mark that ends the words is wanted too.
 pub(super) fn group_at(bytes: &[u8], at: usize) -> Group
     ensures { Gathered bytes.now at result }
 {
@@ -16,22 +16,18 @@ pub(super) fn group_at(bytes: &[u8], at: usize) -> Group
     let mut here = at;
     'words: loop {
         let (token, next) = next_token(bytes, here);
-        match token {
-            Token::Word(word) => {
-                count += 1;
-                long = long || word.length > LONGEST;
-                here = next;
-            }
-            _ => {
-                return Group {
-                    at,
-                    count,
-                    long,
-                    mark: token,
-                    next,
-                };
-            }
-        }
+        let Token::Word(word) = token else {
+            return Group {
+                at,
+                count,
+                long,
+                mark: token,
+                next,
+            };
+        };
+        count += 1;
+        long = long || word.length > LONGEST;
+        here = next;
     }
 }
 
@@ -49,26 +45,16 @@ fn none_behind(bytes: &[u8], before: Group) -> Group
     }
 }
 
-// The words behind a bar, none where another mark stands there.
-pub(super) fn behind_bar(bytes: &[u8], before: Group) -> Group
+// The words behind one of the marks that part inputs, none where another mark stands there.
+pub(super) fn behind(bytes: &[u8], before: Group, mark: Token) -> Group
+    requires { PartsInputs mark }
     ensures sums { Sums bytes.now result }
-    ensures names { group_names bytes.now result ≡ following is_bar (rest bytes.now before.mark before.next) }
-    ensures rest { rest bytes.now result.mark result.next ≡ behind is_bar (rest bytes.now before.mark before.next) }
+    ensures names { group_names bytes.now result ≡ following (is_mark mark) (rest bytes.now before.mark before.next) }
+    ensures rest { rest bytes.now result.mark result.next ≡ behind (is_mark mark) (rest bytes.now before.mark before.next) }
 {
-    match before.mark {
-        Token::Bar => group_at(bytes, before.next),
-        _ => none_behind(bytes, before),
-    }
-}
-
-// The words behind two bars, none where another mark stands there.
-pub(super) fn behind_bars(bytes: &[u8], before: Group) -> Group
-    ensures sums { Sums bytes.now result }
-    ensures names { group_names bytes.now result ≡ following is_bars (rest bytes.now before.mark before.next) }
-    ensures rest { rest bytes.now result.mark result.next ≡ behind is_bars (rest bytes.now before.mark before.next) }
-{
-    match before.mark {
-        Token::Bars => group_at(bytes, before.next),
-        _ => none_behind(bytes, before),
+    if before.mark == mark {
+        group_at(bytes, before.next)
+    } else {
+        none_behind(bytes, before)
     }
 }

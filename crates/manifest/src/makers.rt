@@ -6,7 +6,6 @@ ghost use Rattle.words.specs.Spelling.{name_at};
 ghost use Rattle.manifest.specs.Books.{rule_number, is_made, maker_of, twice};
 ghost use Rattle.manifest.specs.Views.{declaration, making};
 
-use super::keys::Text;
 use super::rule::{Rule, Statement};
 use lists::{first, part};
 use terms::Place;
@@ -16,27 +15,23 @@ use words::Path;
 pub fn rule_number(text: &[u8], rules: &[Rule], name: Path) -> Option<usize>
     ensures { result ≡ rule_number (map (declaration text.now) rules.now) (path_name name.entry) }
 {
-    first(&Text { bytes: text }, rules, name)
+    first(rules, |rule| Path::Spelled(rule.name.of(text)), &name)
 }
 
 // Whether a name is among some words.
 pub fn is_among(text: &[u8], words: &[Place], name: Path) -> bool
     ensures { result ≡ is_in (path_name name.entry) (map (name_at text.now) words.now) }
 {
-    first(&Text { bytes: text }, words, name).is_some()
+    first(words, |word| Path::Spelled(word.of(text)), &name).is_some()
 }
 
-// The number of the statement that makes a path.
+// The number of the statement that makes a path. Text, statements and words stand apart, and not in a Manifest, since the reader asks of lists that still grow.
 pub fn maker(text: &[u8], statements: &[Statement], words: &[Place], name: Path) -> Option<usize>
     ensures { result ≡ maker_of (map (making text.now words.now) statements.now) (path_name name.entry) }
 {
-    for i in 0..statements.len() {
-        let statement = statements[i];
-        if is_among(text, part(words, statement.first, statement.outputs), name) {
-            return Some(i);
-        }
-    }
-    None
+    statements
+        .iter()
+        .position(|s| is_among(text, part(words, s.first, s.outputs), name))
 }
 
 // Whether one of the outputs is made already, or stands among them twice.
@@ -48,14 +43,16 @@ pub(super) fn made_twice(
 ) -> bool
     ensures { result ≡ twice (map (making text.now words.now) statements.now) (map (name_at text.now) outputs.now) }
 {
-    for j in 0..outputs.len() {
-        let name = Path::Spelled(outputs[j].of(text));
+    let mut left = outputs;
+    while let Some((output, others)) = left.split_first() {
+        let name = Path::Spelled(output.of(text));
         if maker(text, statements, words, name).is_some() {
             return true;
         }
-        if is_among(text, part(outputs, j + 1, outputs.len()), name) {
+        if is_among(text, others, name) {
             return true;
         }
+        left = others;
     }
     false
 }

@@ -1,27 +1,14 @@
 // Reading a manifest into memory that the caller lends.
 ghost use Rattle.std.specs.Prelude.{◌≡◌, length};
 ghost use Rattle.manifest.specs.Books.{read_manifest};
-ghost use Rattle.manifest.specs.Outcomes.{refusal_of, manifest_outcome, book_shown};
+ghost use Rattle.manifest.specs.Outcomes.{manifest_outcome, book_shown};
 
-use super::fault::{Fault, Owner};
 use super::limits::{RULES, STATEMENTS, WORDS};
 use super::manifest::Manifest;
 use super::reader::Reader;
 use super::rule::{Rule, Statement};
 use lists::GrowList;
-use terms::{At, Place, Refusal};
-
-// The refusal for what is wrong with a line.
-pub fn refusal(fault: At<Fault>) -> Refusal
-    ensures { result ≡ refusal_of fault }
-{
-    match fault.value {
-        Fault::NotUnderstood => Refusal::ManifestLine(fault.offset),
-        Fault::RuleDeclared => Refusal::RuleDeclared(fault.offset),
-        Fault::PastLimit => Refusal::PastLimit(fault.offset),
-        Fault::MadeTwice => Refusal::MadeTwice(fault.offset),
-    }
-}
+use terms::{Place, Refusal};
 
 // What a manifest says, or the first refusal: memory too short for 64 rules, 128 statements or 5,120 words, then the first line that breaks a rule.
 // Behind the end of what is handed back, and after a refusal, the memory is free.
@@ -46,15 +33,13 @@ pub fn read_manifest<'t, 'r, 's, 'w>(
         rules: GrowList::new(rules),
         statements: GrowList::new(statements),
         words: GrowList::new(words),
-        owner: Owner::Nobody,
+        owner: None,
     };
-    match reader.read_lines(text) {
-        Err(fault) => Err(refusal(fault)),
-        Ok(()) => Ok(Manifest {
-            text,
-            rules: reader.rules.into_slice(),
-            statements: reader.statements.into_slice(),
-            words: reader.words.into_slice(),
-        }),
-    }
+    reader.read_lines(text)?;
+    Ok(Manifest {
+        text,
+        rules: reader.rules.into_slice(),
+        statements: reader.statements.into_slice(),
+        words: reader.words.into_slice(),
+    })
 }

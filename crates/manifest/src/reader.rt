@@ -1,5 +1,7 @@
 // What was read of a manifest so far.
-use super::fault::Owner;
+ghost use Rattle.manifest.specs.Sound.{Sound};
+
+use super::owner::Owner;
 use super::rule::{Rule, Statement};
 use lists::GrowList;
 use terms::Place;
@@ -9,5 +11,6 @@ pub(super) struct Reader<'r, 's, 'w> {
     pub(super) rules: GrowList<'r, Rule>,
     pub(super) statements: GrowList<'s, Statement>,
     pub(super) words: GrowList<'w, Place>,
-    pub(super) owner: Owner,
+    pub(super) owner: Option<Owner>,
+    ghost sound: { Sound rules statements words },
 }

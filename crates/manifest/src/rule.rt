@@ -9,7 +9,7 @@ pub struct Rule {
 }
 
 // A statement: its line, its rule's number, and how many outputs, plain, implicit and order-only inputs it has, whose places stand one behind the other in
-// the list of words from `first` on.
+// the list of words from `first` on. Numbers, and no lists of its own: the memory is the caller's, and there is no heap.
 #[derive(Clone, Copy)]
 pub struct Statement {
     pub line: usize,

@@ -5,26 +5,24 @@ ghost use Rattle.words.specs.Tokens.{tokens};
 ghost use Rattle.manifest.specs.Building.{names_of};
 ghost use Rattle.manifest.specs.Stored.{Stored};
 
-use lists::{GrowList, part};
+use lists::GrowList;
 use terms::Place;
-use words::{Token, next_token};
+use words::{Line, Token, next_token};
 
-// Adds the places of the words from `at` on, in the line that ends before `end`.
-pub(super) fn store(words: &mut GrowList<Place>, text: &[u8], end: usize, at: usize)
-    requires { length (items words.old) + length (names_of (tokens (drop at (take end text.now)))) ≤ room words.old }
-    ensures stored { Stored text.now (items words.old) (items words.new) (names_of (tokens (drop at (take end text.now)))) }
+// Adds the places of the words that stand in a line from `at` on, up to a mark. A loop, as in counting them: each token's offset comes from the one before.
+pub(super) fn store(words: &mut GrowList<Place>, line: Line, at: usize)
+    requires { length (items words.old) + length (names_of (tokens (drop at (take line.end line.text.now)))) ≤ room words.old }
+    ensures stored { Stored line.entry.text.now (items words.old) (items words.new) (names_of (tokens (drop at (take line.entry.end line.entry.text.now)))) }
     ensures room { room words.new ≡ room words.old }
 {
-    let line = part(text, 0, end);
+    let bytes = line.front();
     let mut here = at;
     'words: loop {
-        let (token, next) = next_token(line, here);
-        match token {
-            Token::Word(word) => {
-                words.push(word.place);
-                here = next;
-            }
-            _ => return,
-        }
+        let (token, next) = next_token(bytes, here);
+        let Token::Word(word) = token else {
+            return;
+        };
+        words.push(word.place).unwrap();
+        here = next;
     }
 }

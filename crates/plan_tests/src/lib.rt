@@ -53,15 +53,9 @@ mod tests {
         }; 128];
         let mut words = [NOWHERE; 5120];
         let read = read_manifest(text, &mut rules, &mut statements, &mut words)?;
-        let mut keeping = 0usize;
-        for rule in read.rules {
-            if rule.keeps {
-                keeping = keeping.saturating_add(1);
-            }
-        }
         Ok(Counts {
             rules: read.rules.len(),
-            keeping,
+            keeping: read.rules.iter().filter(|rule| rule.keeps).count(),
             statements: read.statements.len(),
             words: read.words.len(),
         })

@@ -5,31 +5,24 @@ ghost use Rattle.planner.specs.Letters.{byte_of};
 #[derive(Clone, Copy, PartialEq, Eq, Debug)]
 pub enum Letter {
     // An output is not listed.
-    Missing,
+    Missing = b'M' as isize,
     // The rule keeps deps and there is no entry.
-    Lacking,
+    Lacking = b'L' as isize,
     // The entry's mtime is below the first output's.
-    Outdated,
+    Outdated = b'T' as isize,
     // An input is not listed and no statement makes it.
-    Gone,
+    Gone = b'G' as isize,
     // An input is stale.
-    Spoilt,
+    Spoilt = b'S' as isize,
     // Some input is newer than some output.
-    Newer,
+    Newer = b'N' as isize,
 }
 
 impl Letter {
     pub fn byte(self) -> u8
         ensures { result ≡ byte_of self }
     {
-        match self {
-            Letter::Missing => b'M',
-            Letter::Lacking => b'L',
-            Letter::Outdated => b'T',
-            Letter::Gone => b'G',
-            Letter::Spoilt => b'S',
-            Letter::Newer => b'N',
-        }
+        self as u8
     }
 }
 

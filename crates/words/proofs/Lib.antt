@@ -1,4 +1,5 @@
 pub mod Lexemes
 pub mod Lines
+pub mod Oks
 pub mod Spans
 pub mod Spells

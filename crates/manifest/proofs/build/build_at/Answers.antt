@@ -1,8 +1,9 @@
 use Rattle.std.proofs.Common.{◌≡◌, drop, sym, ap, ◌∙◌, subst, arith}
+use Rattle.std.specs.Option.{option_map}
 use Rattle.words.specs.Shown.{Counted}
 use Rattle.words.specs.Tokens.{tokens}
 use Rattle.manifest.specs.Building.{inputs_of, with_inputs, with_rule, build_of}
-use Rattle.manifest.specs.Groups.{word_name, group_names}
+use Rattle.manifest.specs.Groups.{word_name, group_names, inputs_shown, built_shown, InputSums}
 use Rattle.manifest.proofs.Marks.{token-is, word_first, is_mark, past-colon, no_rule, build_as, some_words}
 use Rattle.manifest.proofs.build.build_at.Goals as goal
 use Rattle.manifest.proofs.build.build_at.Goals.{In-Word}
@@ -31,17 +32,18 @@ said c =
     build_as xs c.args.at g e ∙ past-colon xs g.next (group_names xs g) g.mark c.in-Colon.is (some_words xs g e.sums (λ z. omega (arith, c.if-outputs-lt-LEAST.false))) ∙
     ap (with_rule (group_names xs g)) (word_first xs g.next t.1 t.0 c.in-Word.rule f.token f.next c.in-Word.is)
 
-pub returns-in-Some : goal.returns-in-Some
-returns-in-Some c =
+pub returns : goal.returns
+returns c =
     let xs = c.args.bytes.now in
     let g = c.group_at-outputs.result in
     let k = subst (λ v. Counted xs g.next v c.next_token-token.result.1) c.in-Word.is c.next_token-token.ensures.counted in
     record {
-      said = ap (with_inputs (group_names xs g) (word_name xs c.in-Word.rule)) c.in-Some.ensures.said ∙ sym (said (goal.at.returns-in-Some c).In-Word);
-      sums = (c.group_at-outputs.ensures.sums, c.in-Some.ensures.sums, (k.0, omega (arith, k.1, k.3)));
+      said = ap (with_inputs (group_names xs g) (word_name xs c.in-Word.rule)) (ap (option_map (inputs_shown xs)) (sym c.in_ok-inputs.was) ∙ c.inputs_at.ensures.said) ∙ sym (said (goal.at.returns c).In-Word);
+      sums = (c.group_at-outputs.ensures.sums, subst (InputSums xs) c.in_ok-inputs.was c.inputs_at.ensures.sums, (k.0, omega (arith, k.1, k.3)));
     }
 
-pub returns-in-None : goal.returns-in-None
-returns-in-None c =
+pub returns-in_err-inputs-clause-said : goal.returns-in_err-inputs-clause-said
+returns-in_err-inputs-clause-said c =
     let xs = c.args.bytes.now in
-    record { said = ap (with_inputs (group_names xs c.group_at-outputs.result) (word_name xs c.in-Word.rule)) c.in-None.ensures.said ∙ sym (said (goal.at.returns-in-None c).In-Word); sums = tt }
+    ap (option_map (built_shown xs)) c.from_residual.ensures ∙
+    ap (with_inputs (group_names xs c.group_at-outputs.result) (word_name xs c.in-Word.rule)) (ap (option_map (inputs_shown xs)) (sym c.in_err-inputs.was) ∙ c.inputs_at.ensures.said) ∙ sym (said (goal.at.returns-in_err-inputs-clause-said c).In-Word)

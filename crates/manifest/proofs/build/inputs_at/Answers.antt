@@ -9,24 +9,24 @@ pub returns-in-End : goal.returns-in-End
 returns-in-End c =
     let xs = c.args.bytes.now in
     let P = c.group_at-plain.result in
-    let I = c.behind_bar-implicit.result in
-    let O = c.behind_bars-order.result in
+    let I = c.behind-implicit.result in
+    let O = c.behind-order.result in
     record {
       said = inputs-some (tokens (drop c.args.at xs)) (rest xs P.mark P.next) (rest xs I.mark I.next) (rest xs O.mark O.next) (group_names xs P) (group_names xs I) (group_names xs O)
-          (ap (λ (k : ℕ). names_of (tokens (drop k xs))) c.group_at-plain.ensures.begins) c.group_at-plain.ensures.marks c.behind_bar-implicit.ensures.names c.behind_bar-implicit.ensures.rest
-          c.behind_bars-order.ensures.names c.behind_bars-order.ensures.rest (at_end xs O.next O.mark c.in-End.is);
-      sums = (c.group_at-plain.ensures.sums, c.behind_bar-implicit.ensures.sums, c.behind_bars-order.ensures.sums);
+          (ap (λ (k : ℕ). names_of (tokens (drop k xs))) c.group_at-plain.ensures.begins) c.group_at-plain.ensures.marks c.behind-implicit.ensures.names c.behind-implicit.ensures.rest
+          c.behind-order.ensures.names c.behind-order.ensures.rest (at_end xs O.next O.mark c.in-End.is);
+      sums = (c.group_at-plain.ensures.sums, c.behind-implicit.ensures.sums, c.behind-order.ensures.sums);
     }
 
 pub returns-in_default : goal.returns-in_default
 returns-in_default c =
     let xs = c.args.bytes.now in
     let P = c.group_at-plain.result in
-    let I = c.behind_bar-implicit.result in
-    let O = c.behind_bars-order.result in
+    let I = c.behind-implicit.result in
+    let O = c.behind-order.result in
     record {
       said = inputs-none (tokens (drop c.args.at xs)) (rest xs P.mark P.next) (rest xs I.mark I.next) (rest xs O.mark O.next) (group_names xs P) (group_names xs I) (group_names xs O)
-          (ap (λ (k : ℕ). names_of (tokens (drop k xs))) c.group_at-plain.ensures.begins) c.group_at-plain.ensures.marks c.behind_bar-implicit.ensures.names c.behind_bar-implicit.ensures.rest
-          c.behind_bars-order.ensures.names c.behind_bars-order.ensures.rest (not_end xs O.next O.mark c.in_default.not-End);
+          (ap (λ (k : ℕ). names_of (tokens (drop k xs))) c.group_at-plain.ensures.begins) c.group_at-plain.ensures.marks c.behind-implicit.ensures.names c.behind-implicit.ensures.rest
+          c.behind-order.ensures.names c.behind-order.ensures.rest (not_end xs O.next O.mark c.in_default.not-End);
       sums = tt;
     }

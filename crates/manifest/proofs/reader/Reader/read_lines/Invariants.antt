@@ -1,15 +1,14 @@
-use Rattle.std.proofs.Common.{◌≡◌, ◌+◌, ◌-◌, ◌≤◌, length, drop}
+use Rattle.std.proofs.Common.{◌≡◌}
+use Rattle.words.specs.Line.{lines_left}
 use Rattle.words.specs.Lines.{lines_of}
 use Rattle.manifest.specs.Books.{read_lines}
-use Rattle.manifest.specs.Kept.{reading_of, Sound}
+use Rattle.manifest.specs.Kept.{reading_of}
 use Rattle.manifest.proofs.reader.Reader.read_lines.Given as goal
 
 -- the lines that are left give the answer
-abbrev pub invariant-lines : goal.invariant-lines
-invariant-lines l =
-    Sound l.self
-    × (read_lines l.line (lines_of (drop l.at l.text)) (reading_of l.text l.self) ≡ read_lines 1 (lines_of l.text) (reading_of l.text l.initial.self))
-    × (l.line ≤ l.at + 1)
-
-abbrev pub decreases-lines : goal.decreases-lines
-decreases-lines l = length l.text - l.at
+abbrev pub invariant-loop-line : goal.invariant-loop-line
+invariant-loop-line l =
+    (goal.iterator-loop-line).can_next l.line-iterator
+    × (goal.iterator-loop-line).is_finite l.line-iterator
+    × (l.line-iterator.text.now ≡ l.text)
+    × (read_lines l.line-iterator.number (lines_left l.line-iterator) (reading_of l.text l.self) ≡ read_lines 1 (lines_of l.text) (reading_of l.text l.initial.self))

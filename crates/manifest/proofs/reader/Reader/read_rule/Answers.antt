@@ -1,29 +1,36 @@
 use Rattle.std.proofs.Common.{◌≡◌, ℕ, List, length, drop, Some, sym, ap, ◌∙◌, subst}
+use Rattle.std.specs.Option.{option_map}
 use Rattle.words.specs.Spelling.{name_at}
 use Rattle.words.specs.Tokens.{tokens}
 use Rattle.manifest.specs.Building.{rule_of}
 use Rattle.manifest.specs.Books.{read_rule}
-use Rattle.manifest.specs.Groups.{WordSums}
+use Rattle.manifest.specs.Groups.{word_name, WordSums}
 use Rattle.manifest.specs.Kept.{book_of}
+use Rattle.words.proofs.Oks.{given}
 use Rattle.manifest.proofs.Stores.{name-within}
 use Rattle.manifest.proofs.reader.Reader.read_rule.Goals as goal
-use Rattle.manifest.proofs.reader.Reader.read_rule.Goals.{In-Some}
+use Rattle.manifest.proofs.reader.Reader.read_rule.Goals.{In_ok-word}
+
+-- the word that was read
+read : (c : In_ok-word) → c.rule_at.result ≡ Some c.in_ok-word.word
+read c = given _ _ _ _ c.ok_or.ensures.value c.in_ok-word.was
+
+sums : (c : In_ok-word) → WordSums c.front.result.now (Some c.in_ok-word.word)
+sums c = subst (WordSums c.front.result.now) (read c) c.rule_at.ensures.sums
 
 -- the name in the line is the name in the text
-named : (c : In-Some) → name_at c.part.result.now c.in-Some.word.place ≡ name_at c.args.text.now c.in-Some.word.place
+named : (c : In_ok-word) → name_at c.front.result.now c.in_ok-word.word.place ≡ name_at c.args.line.text.now c.in_ok-word.word.place
 named c =
-    let w = c.in-Some.word in
-    let k = subst (λ (xs : List ℕ). WordSums xs (Some w)) c.part.ensures c.in-Some.ensures.sums in
-    ap (λ (xs : List ℕ). name_at xs w.place) c.part.ensures ∙ name-within c.args.text.now c.args.end w.place k.1
+    let w = c.in_ok-word.word in
+    let k = subst (λ (xs : List ℕ). WordSums xs (Some w)) c.front.ensures (sums c) in
+    ap (λ (xs : List ℕ). name_at xs w.place) c.front.ensures ∙ name-within c.args.line.text.now c.args.line.end w.place k.1
 
 pub declare-requires : goal.declare-requires
-declare-requires c = record { sound = c.requires; word = c.in-Some.ensures.sums.0 ∙ ap length (named (goal.at.declare-requires c).In-Some) }
+declare-requires c = let d = (goal.at.declare-requires c).In_ok-word in (sums d).0 ∙ ap length (named d)
 
-pub returns-in-Some : goal.returns-in-Some
-returns-in-Some c =
-    let B = book_of c.args.text.now c.args.self.now in
-    record {
-      sound = c.declare.ensures.sound;
-      said = c.declare.ensures.said ∙
-          ap (read_rule B) (ap (λ (n : List ℕ). Some n) (sym (named (goal.at.returns-in-Some c).In-Some)) ∙ c.in-Some.ensures.said ∙ ap (λ (xs : List ℕ). rule_of (tokens (drop c.args.at xs))) c.part.ensures);
-    }
+pub returns : goal.returns
+returns c =
+    let d = (goal.at.returns c).In_ok-word in
+    let said = ap (option_map (word_name c.front.result.now)) (sym (read d)) ∙ c.rule_at.ensures.said in
+    c.declare.ensures ∙
+    ap (read_rule (book_of c.args.line.text.now c.args.self.now)) (ap (λ (n : List ℕ). Some n) (sym (named d)) ∙ said ∙ ap (λ (xs : List ℕ). rule_of (tokens (drop c.args.line.at xs))) c.front.ensures)

@@ -1,8 +1,7 @@
 // What is wrong with a line of a listing.
-ghost use Rattle.std.specs.Prelude.{◌≡◌};
 ghost use Rattle.listing.specs.Faults.{listing_refusal};
 
-use terms::Refusal;
+use terms::{LineFault, Refusal};
 
 #[derive(Clone, Copy, PartialEq, Eq, Debug)]
 pub enum ListingFault {
@@ -12,11 +11,10 @@ pub enum ListingFault {
     PastRows,
 }
 
-impl ListingFault {
-    // The refusal for this fault in a line. No `From` makes it: the fault beside its line is an `At`, which is of another crate, as the refusal is.
-    pub fn in_line(self, line: usize) -> Refusal
-        ensures { result ≡ listing_refusal line self }
-    {
+impl LineFault for ListingFault {
+    ghost told = { listing_refusal };
+
+    fn in_line(self, line: usize) -> Refusal {
         match self {
             ListingFault::BadLine => Refusal::ListingLine(line),
             ListingFault::PastRows => Refusal::PastLimit(line),

@@ -10,7 +10,7 @@ use super::fault::ListingFault;
 use super::listing::Listing;
 use super::row::Row;
 use lists::{GrowList, first};
-use terms::Refusal;
+use terms::{At, Refusal};
 use words::{Line, TextLines};
 
 // How many rows a listing may have.
@@ -44,7 +44,10 @@ pub fn read_listing<'t, 'r>(text: &'t [u8], rows: &'r mut [Row]) -> Result<Listi
     }
     let mut list = GrowList::new(rows);
     for line in TextLines::of(text) {
-        add_row(&mut list, line).map_err(|fault| fault.in_line(line.number))?;
+        add_row(&mut list, line).map_err(|value| At {
+            offset: line.number,
+            value,
+        })?;
     }
     Ok(Listing {
         text,

@@ -1,8 +1,7 @@
 // What is wrong with a line of a manifest.
-ghost use Rattle.std.specs.Prelude.{◌≡◌};
 ghost use Rattle.manifest.specs.Faults.{fault_refusal};
 
-use terms::Refusal;
+use terms::{LineFault, Refusal};
 
 #[derive(Clone, Copy, PartialEq, Eq, Debug)]
 pub enum Fault {
@@ -16,11 +15,10 @@ pub enum Fault {
     MadeTwice,
 }
 
-impl Fault {
-    // The refusal for this fault in a line. No `From` makes it: the fault beside its line is an `At`, which is of another crate, as the refusal is.
-    pub fn in_line(self, line: usize) -> Refusal
-        ensures { result ≡ fault_refusal line self }
-    {
+impl LineFault for Fault {
+    ghost told = { fault_refusal };
+
+    fn in_line(self, line: usize) -> Refusal {
         match self {
             Fault::NotUnderstood => Refusal::ManifestLine(line),
             Fault::RuleDeclared => Refusal::RuleDeclared(line),

@@ -26,7 +26,7 @@ use super::reader::Reader;
 use super::rule::{Rule, Statement};
 use super::store::store;
 use lists::{GrowList, part};
-use terms::Refusal;
+use terms::{At, Refusal};
 use words::{Line, Path, TextLines, Word};
 
 // Whether a build line has more than 8 outputs, 32 inputs in all or 120 bytes in a name.
@@ -183,8 +183,10 @@ impl Reader<'_, '_, '_> {
         ensures { told result (reading_of text.now self.new) ≡ refused (read_lines 1 (lines_of text.now) (reading_of text.now self.old)) }
     {
         for line in TextLines::of(text) {
-            self.read_line(line)
-                .map_err(|fault| fault.in_line(line.number))?;
+            self.read_line(line).map_err(|value| At {
+                offset: line.number,
+                value,
+            })?;
         }
         Ok(())
     }

@@ -5,10 +5,12 @@ ghost use Rattle.std.specs.Prelude.{◌≡◌};
 ghost use Rattle.terms.specs.Places.{at_place};
 ghost use Rattle.terms.specs.Refusals.{number_of, place_of};
 
+mod faults;
 mod few;
 mod fews;
 mod names;
 
+pub use faults::LineFault;
 pub use few::Few;
 pub use names::is_name;
 use std::error::Error;

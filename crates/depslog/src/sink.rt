@@ -9,6 +9,7 @@ ghost use Rattle.depslog.specs.Sinks.{live_in_pieces, draft_in_pieces};
 
 use medium::{Fault, Medium};
 
+// That the power is on and that there is room are asked at each call: they are facts of the moment, which no type of a medium could keep, since every call may lose the power.
 pub(super) trait Sink<M: Medium> {
     // The bytes behind which they go.
     ghost held: { State → List ℕ };

@@ -37,7 +37,7 @@ fn change_on<'a, M: Medium + Drop, C: Change>(
     change: &C,
 ) -> Result<Vec<u8>, Failure<'a>> {
     let mut log = Log::new(rt.alloc(), medium)?;
-    open(rt, path, &mut log, "is dropped")?;
+    open(rt, path, &mut log, " is dropped")?;
     change
         .make(&mut log)
         .map_err(|(call, refusal)| Failure::Refused(path, call, refusal))?;

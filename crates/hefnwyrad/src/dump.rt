@@ -1,6 +1,7 @@
 // Printing what a deps log holds.
 use super::failure::Failure;
 use super::files::read_log;
+use super::opening::print_tail;
 use super::shown::Shown;
 use image::{Deps, DepsEntry, DepsTable, Filled, Read, read_record};
 use std::io;
@@ -79,13 +80,7 @@ fn print_entries(rt: &HostRuntime, table: &DepsTable) -> io::Result<usize> {
 fn print_sum(rt: &HostRuntime, filled: Filled, entries: usize) -> io::Result<()> {
     let records = filled.records;
     println!(rt; "{records} records, {entries} entries")?;
-    if let Some(tail) = filled.tail {
-        let offset = tail.offset;
-        let number = tail.value.number();
-        let cause = tail.value;
-        println!(rt; "tail at {offset}, cause {number}: {cause}")?;
-    }
-    Ok(())
+    print_tail(rt, filled.tail, "")
 }
 
 // Prints a log.

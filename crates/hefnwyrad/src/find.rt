@@ -36,7 +36,7 @@ fn find_on<'a, M: Medium + Drop>(
     output: &[u8],
 ) -> Result<(), Failure<'a>> {
     let mut log = Log::new(rt.alloc(), medium)?;
-    open(rt, path, &mut log, "would be dropped")?;
+    open(rt, path, &mut log, " would be dropped")?;
     let found = log
         .find(output)
         .map_err(|refusal| Failure::Refused(path, "find", refusal))?;

@@ -1,16 +1,23 @@
 // Opening a log that lies in a file, on a medium.
 use super::failure::Failure;
 use super::files::LONGEST;
-use depslog::{Log, Opened};
+use depslog::Log;
+use image::Cause;
 use medium::Medium;
 use std::io;
+use terms::At;
 
-fn print_tail(rt: &HostRuntime, opened: Opened, fate: &str) -> io::Result<()> {
-    if let Some(tail) = opened.tail {
-        let offset = tail.offset;
-        let number = tail.value.number();
-        let cause = tail.value;
-        println!(rt; "tail at {offset} {fate}, cause {number}: {cause}")?;
+// Where a log's tail cannot be read, says where it begins, what becomes of it, and why.
+pub(super) fn print_tail(rt: &HostRuntime, tail: Option<At<Cause>>, fate: &str) -> io::Result<()> {
+    if let Some(
+        At {
+            offset,
+            value: cause,
+        },
+    ) = tail
+    {
+        let number = cause.number();
+        println!(rt; "tail at {offset}{fate}, cause {number}: {cause}")?;
     }
     Ok(())
 }
@@ -35,6 +42,6 @@ pub(super) fn open<'a, M: Medium>(
     let opened = log
         .open(&mut copy)
         .map_err(|refusal| Failure::Refused(path, "open", refusal))?;
-    print_tail(rt, opened, fate)?;
+    print_tail(rt, opened.tail, fate)?;
     Ok(())
 }

@@ -57,6 +57,17 @@ struct Row {
     left: [usize; 3],
 }
 
+impl From<(u64, Side, bool, [usize; 3])> for Row {
+    fn from((step, side, promoted, left): (u64, Side, bool, [usize; 3])) -> Row {
+        Row {
+            step,
+            side,
+            promoted,
+            left,
+        }
+    }
+}
+
 // `told` answers the survivors of a plan.
 fn check_row<F>(rt: &impl Abort, row: Row, told: F) -> Result<(), Fail>
 where
@@ -127,34 +138,16 @@ const PILE: [(u64, Side, bool, [usize; 3]); 18] = [
 
 #[test]
 fn bench_fails_where_it_is_told(rt: HostRuntime) -> Result<(), Fail> {
-    for (step, side, promoted, left) in BENCH {
-        check_row(
-            &rt,
-            Row {
-                step,
-                side,
-                promoted,
-                left,
-            },
-            on_bench,
-        )?;
+    for row in BENCH {
+        check_row(&rt, row.into(), on_bench)?;
     }
     Ok(())
 }
 
 #[test]
 fn a_pile_loses_what_it_holds(rt: HostRuntime) -> Result<(), Fail> {
-    for (step, side, promoted, left) in PILE {
-        check_row(
-            &rt,
-            Row {
-                step,
-                side,
-                promoted,
-                left,
-            },
-            on_pile,
-        )?;
+    for row in PILE {
+        check_row(&rt, row.into(), on_pile)?;
     }
     Ok(())
 }

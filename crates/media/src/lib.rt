@@ -6,6 +6,5 @@ mod failing;
 mod shelf;
 mod store;
 
-pub use area::Area;
-pub use failing::{Failing, Pages, Plan, Side};
+pub use failing::{Pages, Plan, Side};
 pub use store::{Bench, Paged, Store, Token};

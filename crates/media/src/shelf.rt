@@ -3,7 +3,7 @@ ghost use Rattle.std.specs.Prelude.{◌≡◌, ◌+◌, ◌-◌, ◌≤◌, min,
 ghost use Rattle.medium.specs.State.{all, settled, more, cut};
 ghost use Rattle.media.specs.Fill.{on_shelf, size_of};
 
-use crate::Area;
+use crate::area::Area;
 
 // The first `len` bytes of the area count, as far as it goes and there is room; the first `durable` of these outlast a
 // failure. So every value has a meaning. A length stands beside the area, since a caller may lend it: it cannot grow. The room is

@@ -7,8 +7,10 @@ ghost use Rattle.media.specs.Memory.{filled};
 ghost use Rattle.media.specs.Told.{stepped, fallen, fallen_to, append, sync, begin, draft_append, draft_sync, promote, power_return, measure, count, copied};
 ghost use Rattle.media.specs.View.{of_store, outcome, of_bench, of_paged, started};
 
+use crate::area::Area;
+use crate::failing::Failing;
 use crate::shelf::Shelf;
-use crate::{Area, Failing, Pages, Plan, Side};
+use crate::{Pages, Plan, Side};
 use medium::{Fault, Medium, fits};
 use std::marker::PhantomData;
 use std::mem;

@@ -1,17 +1,14 @@
 // Changing a log that lies in a file.
-use super::failure::Failure;
-use super::files::{LONGEST, read_log_or_none, replace_log};
-use super::opening::{open, with_room};
+use super::failure::{Failure, Refused};
+use super::files::{LONGEST, LogFile};
+use super::opening::Task;
 use depslog::Log;
-use media::{Bench, Plan};
 use medium::Medium;
 use std::io;
-use terms::Refusal;
 
-// What is done with an open log.
+// A change of an open log.
 pub(super) trait Change {
-    // Refused, the name of the call that was.
-    fn make<M: Medium>(&self, log: &mut Log<M>) -> Result<(), (&'static str, Refusal)>;
+    fn make<M: Medium>(&self, log: &mut Log<M>) -> Result<(), Refused>;
 }
 
 // How many bytes a log had, and how many it has now.
@@ -29,38 +26,41 @@ fn live_bytes<M: Medium>(rt: &HostRuntime, medium: &M) -> io::Result<Vec<u8>> {
     Ok(bytes)
 }
 
-// Opens a log on a medium, makes the change, and answers the live bytes.
-fn change_on<'a, M: Medium + Drop, C: Change>(
-    rt: &HostRuntime,
-    path: &'a str,
-    medium: M,
-    change: &C,
-) -> Result<Vec<u8>, Failure<'a>> {
-    let mut log = Log::new(rt.alloc(), medium)?;
-    open(rt, path, &mut log, " is dropped")?;
-    change
-        .make(&mut log)
-        .map_err(|(call, refusal)| Failure::Refused(path, call, refusal))?;
-    let medium = log.into_medium();
-    Ok(live_bytes(rt, &medium)?)
+// A change, and then the live bytes.
+#[derive(Clone, Copy)]
+struct Changing<'c, C> {
+    change: &'c C,
 }
 
-// Makes a change of the log in a file. The file stays as it is where the change is refused or leaves the bytes as they were.
-pub(super) fn change_log<'a, C: Change>(
-    rt: &HostRuntime,
-    path: &'a str,
-    change: &C,
-) -> Result<Sizes, Failure<'a>> {
-    let image = read_log_or_none(rt, path)?;
-    let mut live = with_room(rt, &image)?;
-    let mut draft = vec![in rt.alloc(); 0u8; LONGEST]?;
-    let bench = Bench::new(&mut live, &mut draft, image.len(), Plan::NEVER);
-    let bytes = change_on(rt, path, bench, change)?;
-    if bytes.as_slice() != image.as_slice() {
-        replace_log(rt, path, &bytes)?;
+impl<'a, C: Change> Task<'a> for Changing<'_, C> {
+    type Outcome = Vec<u8>;
+
+    const FATE: &'static str = " is dropped";
+
+    fn run<M: Medium + Drop>(
+        &self,
+        file: LogFile<'a>,
+        mut log: Log<M>,
+    ) -> Result<Vec<u8>, Failure<'a>> {
+        self.change
+            .make(&mut log)
+            .map_err(|refused| file.refused(refused))?;
+        let medium = log.into_medium();
+        Ok(live_bytes(file.rt, &medium)?)
     }
-    Ok(Sizes {
-        before: image.len(),
-        after: bytes.len(),
-    })
+}
+
+impl<'a> LogFile<'a> {
+    // Makes a change of the log. The file stays as it is where the change is refused or leaves the bytes as they were.
+    pub(super) fn change<C: Change>(self, change: &C) -> Result<Sizes, Failure<'a>> {
+        let image = self.read_or_none()?;
+        let bytes = self.on_bench(&image, &Changing { change })?;
+        if bytes.as_slice() != image.as_slice() {
+            self.replace(&bytes)?;
+        }
+        Ok(Sizes {
+            before: image.len(),
+            after: bytes.len(),
+        })
+    }
 }

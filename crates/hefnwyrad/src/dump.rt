@@ -1,6 +1,6 @@
 // Printing what a deps log holds.
 use super::failure::Failure;
-use super::files::read_log;
+use super::files::LogFile;
 use super::opening::print_tail;
 use super::shown::Shown;
 use image::{Deps, DepsEntry, DepsTable, Filled, Read, read_record};
@@ -48,7 +48,8 @@ fn print_deps(rt: &HostRuntime, table: &mut DepsTable, deps: At<Deps>) -> io::Re
     Ok(())
 }
 
-// Each good record with its offset.
+// Each good record with its offset. The offset is stepped by hand: the table learns between two records, so no iterator that borrows
+// it to read them lives across the loop.
 fn print_records(rt: &HostRuntime, image: &[u8], records: usize) -> io::Result<()> {
     let mut table = DepsTable::new(rt.alloc())?;
     let mut at = 16;
@@ -83,15 +84,17 @@ fn print_sum(rt: &HostRuntime, filled: Filled, entries: usize) -> io::Result<()>
     print_tail(rt, filled.tail, "")
 }
 
-// Prints a log.
-pub(super) fn dump<'a>(rt: &HostRuntime, path: &'a str) -> Result<(), Failure<'a>> {
-    let image = read_log(rt, path)?;
-    let mut table = DepsTable::new(rt.alloc())?;
-    let filled = table
-        .fill(&image)
-        .map_err(|refusal| Failure::NoLog(path, refusal))?;
-    print_records(rt, &image, filled.records)?;
-    let entries = print_entries(rt, &table)?;
-    print_sum(rt, filled, entries)?;
-    Ok(())
+impl<'a> LogFile<'a> {
+    // Prints the log.
+    pub(super) fn dump(self) -> Result<(), Failure<'a>> {
+        let image = self.read()?;
+        let mut table = DepsTable::new(self.rt.alloc())?;
+        let filled = table
+            .fill(&image)
+            .map_err(|refusal| Failure::NoLog(self.path, refusal))?;
+        print_records(self.rt, &image, filled.records)?;
+        let entries = print_entries(self.rt, &table)?;
+        print_sum(self.rt, filled, entries)?;
+        Ok(())
+    }
 }

@@ -1,8 +1,66 @@
 // Why what was asked could not be done.
 use super::files::LONGEST;
 use std::alloc::{AllocError, AllocFailed};
+use std::error::Error;
 use std::{fmt, io};
 use terms::Refusal;
+
+pub(super) const USAGE: &str =
+    "usage: hefnwyrad dump LOG                          print each record of a deps log, its entries, and a tail that cannot be read
+       hefnwyrad find LOG OUTPUT                   print the mtime and the inputs of an output's entry
+       hefnwyrad note LOG OUTPUT MTIME INPUT...    note that an output was made at a time from inputs";
+
+// A call of a log.
+#[derive(Clone, Copy, Debug, PartialEq, Eq)]
+pub(super) enum Call {
+    Open,
+    Find,
+    Note,
+    Sync,
+    Recompact,
+}
+
+impl Call {
+    pub(super) fn refused(self, refusal: Refusal) -> Refused {
+        Refused {
+            call: self,
+            refusal,
+        }
+    }
+}
+
+impl fmt::Display for Call {
+    fn fmt<W: fmt::Write>(&self, f: &mut fmt::Formatter<W>) -> fmt::Result {
+        f.write_str(match self {
+            Call::Open => "open",
+            Call::Find => "find",
+            Call::Note => "note",
+            Call::Sync => "sync",
+            Call::Recompact => "recompact",
+        })
+    }
+}
+
+// A call that was refused, and why.
+#[derive(Clone, Copy, Debug, PartialEq, Eq)]
+pub(super) struct Refused {
+    call: Call,
+    refusal: Refusal,
+}
+
+impl Error for Refused {}
+
+impl fmt::Display for Refused {
+    fn fmt<W: fmt::Write>(&self, f: &mut fmt::Formatter<W>) -> fmt::Result {
+        let Refused { call, refusal } = self;
+        write!(
+            f,
+            "{call} refused {} at {} ({refusal})",
+            refusal.number(),
+            refusal.place()
+        )
+    }
+}
 
 #[derive(Debug, Drop)]
 pub(super) enum Failure<'a> {
@@ -17,10 +75,12 @@ pub(super) enum Failure<'a> {
     // The file is no log.
     NoLog(&'a str, Refusal),
     // A call of the log in the file was refused.
-    Refused(&'a str, &'static str, Refusal),
+    Refused(&'a str, Refused),
     // Printing, or the memory.
     Io(io::Error),
 }
+
+impl Error for Failure<'_> {}
 
 impl From<io::Error> for Failure<'_> {
     fn from(error: io::Error) -> Self {
@@ -43,7 +103,7 @@ impl<T: Drop> From<AllocFailed<T>> for Failure<'_> {
 impl fmt::Display for Failure<'_> {
     fn fmt<W: fmt::Write>(&self, f: &mut fmt::Formatter<W>) -> fmt::Result {
         match self {
-            Failure::Usage => f.write_str("these arguments are not understood"),
+            Failure::Usage => f.write_str(USAGE),
             Failure::NoMtime(text) => write!(
                 f,
                 "{text}: is no mtime, a number below 2 to the 64th"
@@ -60,12 +120,7 @@ impl fmt::Display for Failure<'_> {
                 refusal.number(),
                 refusal.place()
             ),
-            Failure::Refused(path, call, refusal) => write!(
-                f,
-                "{path}: {call} refused {} at {} ({refusal})",
-                refusal.number(),
-                refusal.place()
-            ),
+            Failure::Refused(path, refused) => write!(f, "{path}: {refused}"),
             Failure::Io(error) => write!(f, "{error}"),
         }
     }

@@ -7,25 +7,47 @@ use std::{fs, io};
 // The most bytes of a log: the capacity of the medium that it is read into.
 pub(super) const LONGEST: usize = 65_536;
 
-// The bytes of a file.
-pub(super) fn read_log<'a>(rt: &HostRuntime, path: &'a str) -> Result<Vec<u8>, Failure<'a>> {
-    let about = fs::metadata(rt, path).map_err(|e| Failure::Unreadable(path, e))?;
-    if about.len() > LONGEST as u64 {
-        return Err(Failure::TooLarge(path, about.len()));
-    }
-    fs::read(rt, path).map_err(|e| Failure::Unreadable(path, e))
+// A log that lies in a file.
+#[derive(Clone, Copy)]
+pub(super) struct LogFile<'a> {
+    pub(super) rt: &'a HostRuntime,
+    pub(super) path: &'a str,
 }
 
-// The bytes of a file; a missing file has none.
-pub(super) fn read_log_or_none<'a>(
-    rt: &HostRuntime,
-    path: &'a str,
-) -> Result<Vec<u8>, Failure<'a>> {
-    match read_log(rt, path) {
-        Err(Failure::Unreadable(_, e)) if e.kind() == ErrorKind::NotFound => Ok(Vec::new(
-            rt.alloc(),
-        )),
-        read => read,
+impl<'a> LogFile<'a> {
+    // The bytes of the file.
+    pub(super) fn read(self) -> Result<Vec<u8>, Failure<'a>> {
+        let about = fs::metadata(self.rt, self.path).map_err(|e| Failure::Unreadable(
+            self.path, e,
+        ))?;
+        if about.len() > LONGEST as u64 {
+            return Err(Failure::TooLarge(self.path, about.len()));
+        }
+        fs::read(self.rt, self.path).map_err(|e| Failure::Unreadable(self.path, e))
+    }
+
+    // The bytes of the file; a missing file has none.
+    pub(super) fn read_or_none(self) -> Result<Vec<u8>, Failure<'a>> {
+        match self.read() {
+            Err(Failure::Unreadable(_, e)) if e.kind() == ErrorKind::NotFound => Ok(Vec::new(
+                self.rt.alloc(),
+            )),
+            read => read,
+        }
+    }
+
+    // Replaces the log: the bytes go to a temporary file beside it, which is synced and renamed over it. Where that cannot be done, the log stays as it is.
+    pub(super) fn replace(self, bytes: &[u8]) -> Result<(), Failure<'a>> {
+        let draft = format!(in self.rt.alloc(); "{}.draft", self.path)?;
+        let done = write_synced(self.rt, draft.as_str(), bytes).and_then(|()| fs::rename(
+            self.rt,
+            draft.as_str(),
+            self.path,
+        ));
+        done.map_err(|e| {
+            let _ = fs::remove_file(self.rt, draft.as_str());
+            Failure::Unwritable(self.path, e)
+        })
     }
 }
 
@@ -33,22 +55,4 @@ fn write_synced(rt: &HostRuntime, path: &str, bytes: &[u8]) -> io::Result<()> {
     let mut file = File::create(rt, path)?;
     file.write_all(bytes)?;
     file.sync_all()
-}
-
-// Replaces a log: the bytes go to a temporary file beside it, which is synced and renamed over it. Where that cannot be done, the log stays as it is.
-pub(super) fn replace_log<'a>(
-    rt: &HostRuntime,
-    path: &'a str,
-    bytes: &[u8],
-) -> Result<(), Failure<'a>> {
-    let draft = format!(in rt.alloc(); "{path}.draft")?;
-    let done = write_synced(rt, draft.as_str(), bytes).and_then(|()| fs::rename(
-        rt,
-        draft.as_str(),
-        path,
-    ));
-    done.map_err(|e| {
-        let _ = fs::remove_file(rt, draft.as_str());
-        Failure::Unwritable(path, e)
-    })
 }

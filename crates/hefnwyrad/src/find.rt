@@ -1,10 +1,9 @@
 // Finding an output's entry in a log that lies in a file.
-use super::failure::Failure;
-use super::files::{LONGEST, read_log_or_none};
-use super::opening::{open, with_room};
+use super::failure::{Call, Failure};
+use super::files::LogFile;
+use super::opening::Task;
 use super::shown::Shown;
 use depslog::Log;
-use media::{Bench, Plan};
 use medium::Medium;
 use std::io;
 use terms::Found;
@@ -28,27 +27,35 @@ fn print_found<M: Medium>(
     println!(rt; "")
 }
 
-// Opens a log on a medium, and prints what it finds.
-fn find_on<'a, M: Medium + Drop>(
-    rt: &HostRuntime,
-    path: &'a str,
-    medium: M,
-    output: &[u8],
-) -> Result<(), Failure<'a>> {
-    let mut log = Log::new(rt.alloc(), medium)?;
-    open(rt, path, &mut log, " would be dropped")?;
-    let found = log
-        .find(output)
-        .map_err(|refusal| Failure::Refused(path, "find", refusal))?;
-    print_found(rt, &log, output, found)?;
-    Ok(())
+// Printing an output's entry.
+#[derive(Clone, Copy)]
+struct Finding<'o> {
+    output: &'o [u8],
 }
 
-// Prints an output's entry. The file stays as it is.
-pub(super) fn find<'a>(rt: &HostRuntime, path: &'a str, output: &str) -> Result<(), Failure<'a>> {
-    let image = read_log_or_none(rt, path)?;
-    let mut live = with_room(rt, &image)?;
-    let mut draft = vec![in rt.alloc(); 0u8; LONGEST]?;
-    let bench = Bench::new(&mut live, &mut draft, image.len(), Plan::NEVER);
-    find_on(rt, path, bench, output.as_bytes())
+impl<'a> Task<'a> for Finding<'_> {
+    type Outcome = ();
+
+    const FATE: &'static str = " would be dropped";
+
+    fn run<M: Medium + Drop>(&self, file: LogFile<'a>, log: Log<M>) -> Result<(), Failure<'a>> {
+        let found = log
+            .find(self.output)
+            .map_err(|refusal| file.refused(Call::Find.refused(refusal)))?;
+        print_found(file.rt, &log, self.output, found)?;
+        Ok(())
+    }
+}
+
+impl<'a> LogFile<'a> {
+    // Prints an output's entry. The file stays as it is.
+    pub(super) fn find(self, output: &str) -> Result<(), Failure<'a>> {
+        let image = self.read_or_none()?;
+        self.on_bench(
+            &image,
+            &Finding {
+                output: output.as_bytes(),
+            },
+        )
+    }
 }

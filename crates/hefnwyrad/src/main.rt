@@ -11,18 +11,10 @@ mod opening;
 mod recompact;
 mod shown;
 
-use dump::dump;
-use failure::Failure;
-use find::find;
-use note::note;
-use recompact::recompact;
+use failure::{Failure, USAGE};
+use files::LogFile;
 use std::process::ExitCode;
 use std::{env, io};
-
-const USAGE: &str =
-    "usage: hefnwyrad dump LOG                          print each record of a deps log, its entries, and a tail that cannot be read
-       hefnwyrad find LOG OUTPUT                   print the mtime and the inputs of an output's entry
-       hefnwyrad note LOG OUTPUT MTIME INPUT...    note that an output was made at a time from inputs";
 
 fn arguments(rt: &HostRuntime) -> io::Result<Vec<String>> {
     let mut words = Vec::new(rt.alloc());
@@ -32,15 +24,13 @@ fn arguments(rt: &HostRuntime) -> io::Result<Vec<String>> {
     Ok(words)
 }
 
-fn run<'a>(rt: &HostRuntime, words: &'a [String]) -> Result<(), Failure<'a>> {
-    match words {
-        [] => Ok(println!(rt; "{USAGE}")?),
-        [word, log] if word.as_str() == "dump" => dump(rt, log.as_str()),
-        [word, log] if word.as_str() == "recompact" => recompact(rt, log.as_str()),
-        [word, log, output] if word.as_str() == "find" => find(rt, log.as_str(), output.as_str()),
-        [word, log, output, mtime, inputs @ ..] if word.as_str() == "note" => note(
-            rt,
-            log.as_str(),
+// Does what a word asks of a log.
+fn ask<'a>(file: LogFile<'a>, word: &str, rest: &'a [String]) -> Result<(), Failure<'a>> {
+    match (word, rest) {
+        ("dump", []) => file.dump(),
+        ("recompact", []) => file.recompact(),
+        ("find", [output]) => file.find(output.as_str()),
+        ("note", [output, mtime, inputs @ ..]) => file.note(
             output.as_str(),
             mtime.as_str(),
             inputs,
@@ -49,10 +39,21 @@ fn run<'a>(rt: &HostRuntime, words: &'a [String]) -> Result<(), Failure<'a>> {
     }
 }
 
+fn run<'a>(rt: &'a HostRuntime, words: &'a [String]) -> Result<(), Failure<'a>> {
+    match words {
+        [] => Ok(println!(rt; "{USAGE}")?),
+        [_] => Err(Failure::Usage),
+        [word, path, rest @ ..] => {
+            let path = path.as_str();
+            ask(LogFile { rt, path }, word.as_str(), rest)
+        }
+    }
+}
+
 // Says on standard error why what was asked could not be done.
 fn complain(rt: &HostRuntime, failure: &Failure) -> ExitCode {
     let _ = match failure {
-        Failure::Usage => eprintln!(rt; "{USAGE}"),
+        Failure::Usage => eprintln!(rt; "{failure}"),
         failure => eprintln!(rt; "hefnwyrad: {failure}"),
     };
     ExitCode::FAILURE

@@ -1,24 +1,25 @@
 // Recompacting a log that lies in a file.
-use super::change::{Change, change_log};
-use super::failure::Failure;
+use super::change::{Change, Sizes};
+use super::failure::{Call, Failure, Refused};
+use super::files::LogFile;
 use depslog::Log;
 use medium::Medium;
-use terms::Refusal;
 
 #[derive(Clone, Copy)]
 struct Recompaction;
 
 impl Change for Recompaction {
-    fn make<M: Medium>(&self, log: &mut Log<M>) -> Result<(), (&'static str, Refusal)> {
-        log.recompact().map_err(|refusal| ("recompact", refusal))
+    fn make<M: Medium>(&self, log: &mut Log<M>) -> Result<(), Refused> {
+        log.recompact()
+            .map_err(|refusal| Call::Recompact.refused(refusal))
     }
 }
 
-// Recompacts a log.
-pub(super) fn recompact<'a>(rt: &HostRuntime, path: &'a str) -> Result<(), Failure<'a>> {
-    let sizes = change_log(rt, path, &Recompaction)?;
-    let before = sizes.before;
-    let after = sizes.after;
-    println!(rt; "recompact: done, {before} bytes before and {after} now")?;
-    Ok(())
+impl<'a> LogFile<'a> {
+    // Recompacts the log.
+    pub(super) fn recompact(self) -> Result<(), Failure<'a>> {
+        let Sizes { before, after } = self.change(&Recompaction)?;
+        println!(self.rt; "recompact: done, {before} bytes before and {after} now")?;
+        Ok(())
+    }
 }

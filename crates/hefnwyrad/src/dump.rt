@@ -48,8 +48,8 @@ fn print_deps(rt: &HostRuntime, table: &mut DepsTable, deps: At<Deps>) -> io::Re
     Ok(())
 }
 
-// Each good record with its offset. The offset is stepped by hand: the table learns between two records, so no iterator that borrows
-// it to read them lives across the loop.
+// Each good record with its offset. `at` is stepped by hand: the table learns from a record before the next is read, so an iterator
+// that borrows the table to read the records does not live across the loop.
 fn print_records(rt: &HostRuntime, image: &[u8], records: usize) -> io::Result<()> {
     let mut table = DepsTable::new(rt.alloc())?;
     let mut at = 16;

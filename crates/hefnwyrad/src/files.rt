@@ -7,7 +7,7 @@ use std::{fs, io};
 // The most bytes of a log: the capacity of the medium that it is read into.
 pub(super) const LONGEST: usize = 65_536;
 
-// A log that lies in a file.
+// A log that lies in a file, and what the file is reached by.
 #[derive(Clone, Copy)]
 pub(super) struct LogFile<'a> {
     pub(super) rt: &'a HostRuntime,

@@ -22,7 +22,7 @@ fn take_in<'a>(names: &mut Few<&'a [u8], 65>, table: &DepsTable, name: &'a [u8])
     ensures count { length (items names.new) ≤ length (items names.old) + 1 }
 {
     if table.id_of(name).is_none() && !names.as_slice().contains(&name) {
-        let _ = names.push(name);
+        names.push(name).unwrap();
     }
 }
 
@@ -65,7 +65,7 @@ fn entry_for(table: &DepsTable, names: &Few<&[u8], 65>, note: &Told) -> DepsEntr
 {
     let mut entry = DepsEntry::new(note.mtime);
     for name in note.inputs.as_slice() {
-        let _ = entry.push(id_in(table, names, name) as u32);
+        entry.push(id_in(table, names, name) as u32).unwrap();
     }
     entry
 }

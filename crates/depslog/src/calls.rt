@@ -1,4 +1,5 @@
-// Making a log, and the calls that write nothing of their own.
+// Making a log, and the calls that write nothing of their own. Each call asks for itself whether the log is open, since of what may
+// refuse it that is the first: the order is read in the call's own body, and no helper would be shorter than the question.
 ghost use Rattle.std.specs.Prelude.{◌≡◌, not, ◌&&◌, MatchResult};
 ghost use Rattle.medium.specs.Refusals.{refusal_of, is_off};
 ghost use Rattle.std.specs.Option.{option_map};

@@ -12,7 +12,7 @@ ghost use Rattle.depslog.specs.Adding.{note_told, names_added, bytes_added, lear
 
 use super::added::Added;
 use super::told::Told;
-use image::{DepsEntry, DepsTable};
+use image::{DepsEntry, DepsTable, padding_of};
 use terms::Few;
 
 // Adds a name, unless it is known or among these.
@@ -91,7 +91,7 @@ impl<'a> Added<'a> {
     {
         let mut total = 16 + 4 * self.entry.inputs().len();
         for name in self.names.as_slice() {
-            total += 8 + name.len() + (4 - name.len() % 4) % 4;
+            total += 8 + name.len() + padding_of(name.len());
         }
         total
     }

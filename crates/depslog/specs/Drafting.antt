@@ -1,4 +1,4 @@
--- The parts of a recompaction: names and entries of one table as notes would tell them in another, and drafting their records. Assumes nothing.
+-- The parts of a recompaction: drafting records, path records one after the other, and the note that an entry makes. Assumes nothing.
 use Rattle.std.specs.Prelude.{ℕ, List, map, Result}
 use Rattle.medium.specs.declared.Fault.{Fault}
 use Rattle.medium.specs.State.{State, with_drafted}

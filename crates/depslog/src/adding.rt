@@ -12,7 +12,7 @@ ghost use Rattle.depslog.specs.Adding.{note_told, names_added, bytes_added, lear
 
 use super::added::Added;
 use super::told::Told;
-use image::{DepsEntry, DepsTable};
+use image::{DepsEntry, DepsTable, padding_of};
 use terms::Few;
 
 // Adds a name, unless it is known or among these.
@@ -22,7 +22,7 @@ fn take_in<'a>(names: &mut Few<&'a [u8], 65>, table: &DepsTable, name: &'a [u8])
     ensures count { length (items names.new) ≤ length (items names.old) + 1 }
 {
     if table.id_of(name).is_none() && !names.as_slice().contains(&name) {
-        let _ = names.push(name);
+        names.push(name).unwrap();
     }
 }
 
@@ -65,7 +65,7 @@ fn entry_for(table: &DepsTable, names: &Few<&[u8], 65>, note: &Told) -> DepsEntr
 {
     let mut entry = DepsEntry::new(note.mtime);
     for name in note.inputs.as_slice() {
-        let _ = entry.push(id_in(table, names, name) as u32);
+        entry.push(id_in(table, names, name) as u32).unwrap();
     }
     entry
 }
@@ -91,7 +91,7 @@ impl<'a> Added<'a> {
     {
         let mut total = 16 + 4 * self.entry.inputs().len();
         for name in self.names.as_slice() {
-            total += 8 + name.len() + (4 - name.len() % 4) % 4;
+            total += 8 + name.len() + padding_of(name.len());
         }
         total
     }

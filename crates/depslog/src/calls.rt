@@ -1,4 +1,5 @@
-// Making a log, and the calls that write nothing of their own.
+// Making a log, and the calls that write nothing of their own. Each call asks for itself whether the log is open, since of what may
+// refuse it that is the first: the order is read in the call's own body, and no helper would be shorter than the question.
 ghost use Rattle.std.specs.Prelude.{◌≡◌, not, ◌&&◌, MatchResult};
 ghost use Rattle.medium.specs.Refusals.{refusal_of, is_off};
 ghost use Rattle.std.specs.Option.{option_map};
@@ -91,7 +92,7 @@ impl<M: Medium> Log<M> {
         Ok(find(&self.table, output))
     }
 
-    // The name of input k of the entry with an index, where there is such an input.
+    // The name of input k of the entry with an index, where there is such an input. Asked one by one, since a list of them would need memory in the log.
     pub fn input(&self, index: usize, k: usize) -> Option<&[u8]>
         ensures { option_map (λ x. x.now) result ≡ input_name (state_of M.Medium.state self.now).table index k }
     {

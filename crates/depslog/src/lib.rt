@@ -18,3 +18,4 @@ mod told;
 
 pub use log::Log;
 pub use opened::Opened;
+pub use recompaction::recompact;

@@ -36,7 +36,7 @@ pub(super) fn told<'a>(note: &Given<'a>) -> Result<Told<'a>, Refusal>
     let output = name_at(note.bytes, note.output, 0)?;
     let mut inputs = Few::new(output);
     for (k, place) in note.inputs.iter().enumerate() {
-        let _ = inputs.push(name_at(note.bytes, *place, k + 1)?);
+        inputs.push(name_at(note.bytes, *place, k + 1)?).unwrap();
     }
     Ok(Told {
         output,

@@ -4,8 +4,7 @@ ghost use Rattle.depslog.specs.State.{state_of};
 ghost use Rattle.depslog.specs.Recompacting.{RecompactedLog};
 
 use super::log::Log;
-use super::recompaction::Recompacted;
-use super::replacing::replace;
+use super::recompaction::recompact;
 use medium::Medium;
 use std::mem::swap;
 use terms::Refusal;
@@ -18,8 +17,7 @@ impl<M: Medium> Log<M> {
         if !self.open {
             return Err(Refusal::Closed);
         }
-        let image = Recompacted { from: &self.table };
-        match replace(&mut self.medium, &image, &mut self.spare) {
+        match recompact(&mut self.medium, &self.table, &mut self.spare) {
             Ok(()) => {
                 swap(&mut self.table, &mut self.spare);
                 Ok(())

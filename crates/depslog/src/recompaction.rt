@@ -9,9 +9,10 @@ ghost use Rattle.notes.specs.Notes.{notes_bytes};
 ghost use Rattle.notes.specs.Compacting.{entries_of, compact_bytes, compact_table};
 ghost use Rattle.depslog.specs.Adding.{note_told};
 ghost use Rattle.depslog.specs.Drafting.{DraftedAll, note_at};
+ghost use Rattle.depslog.specs.Replacing.{InPlace};
 
 use super::added::Added;
-use super::replacing::Contents;
+use super::replacing::{Contents, replace};
 use super::sink::{Draft, Sink};
 use super::told::Told;
 use image::{DepsEntry, DepsTable, HEADER};
@@ -28,7 +29,7 @@ fn told<'a>(from: &'a DepsTable, id: usize, entry: &DepsEntry) -> Told<'a>
     let output = name_of(from, id);
     let mut inputs = Few::new(output);
     for input in entry.inputs() {
-        let _ = inputs.push(name_of(from, *input as usize));
+        inputs.push(name_of(from, *input as usize)).unwrap();
     }
     Told {
         output,
@@ -79,8 +80,8 @@ fn draft_entries<M: Medium>(
 
 // What a table knows, as a recompacted image. Writing it teaches what that image tells.
 #[derive(Clone, Copy)]
-pub(super) struct Recompacted<'a> {
-    pub(super) from: &'a DepsTable,
+struct Recompacted<'a> {
+    from: &'a DepsTable,
 }
 
 impl<M: Medium> Contents<M> for Recompacted<'_> {
@@ -98,4 +99,16 @@ impl<M: Medium> Contents<M> for Recompacted<'_> {
         draft.put(medium, &HEADER)?;
         draft_entries(medium, draft, self.from, known)
     }
+}
+
+// Puts the recompacted image of what `from` knows in the place of all live bytes, where it fits. Granted, `into` knows what that image tells.
+pub fn recompact<M: Medium>(
+    medium: &mut M,
+    from: &DepsTable,
+    into: &mut DepsTable,
+) -> Result<(), Fault>
+    ensures medium { InPlace (compact_bytes (view from.now)) (M.Medium.state medium.old) result (M.Medium.state medium.new) }
+    ensures known { OnOk result (view into.new ≡ compact_table (view from.now)) }
+{
+    replace(medium, &Recompacted { from }, into)
 }

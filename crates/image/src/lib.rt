@@ -23,4 +23,4 @@ pub use name::Name;
 pub use reader::read_record;
 pub use records::{Deps, Read};
 pub use table::DepsTable;
-pub use writer::{HEADER, TooShort, write_deps, write_header, write_path};
+pub use writer::{HEADER, TooShort, padding_of, write_deps, write_header, write_path};

@@ -37,7 +37,7 @@ pub fn write_header(buf: &mut [u8]) -> Result<usize, TooShort>
 }
 
 // How many zeros make a multiple of 4 of so many bytes.
-fn padding_of(len: usize) -> usize
+pub fn padding_of(len: usize) -> usize
     ensures { result ≡ padding len }
 {
     (4 - len % 4) % 4

@@ -1,6 +1,7 @@
 -- What the rows that are kept of a listing stand for. Assumes nothing.
 use Rattle.std.specs.Prelude.{ℕ, cond, List, map, Ok, Err, Result, nat_lt}
 use Rattle.terms.specs.declared.At.{At}
+use Rattle.terms.specs.Faulty.{refused_by}
 use Rattle.terms.specs.declared.Refusal.{Refusal}
 use Rattle.terms.specs.declared.Refusal.TheVariants as refusal
 use Rattle.terms.specs.Places.{at_place}
@@ -13,14 +14,8 @@ use Rattle.listing.specs.Rows.{Listed}
 abbrev pub listed : List ℕ → Row → Listed
 listed text r = record { name = at_place text r.name; mtime = r.mtime }
 
--- what a line gave: the rows then, or the fault
-abbrev pub rows_told : {A F : Type 0} → Result A F → List Listed → Result (List Listed) F
-rows_told (Ok x) rows = Ok rows
-rows_told (Err f) rows = Err f
-
 abbrev pub listing_refused : Result (List Listed) (At ListingFault) → Result (List Listed) Refusal
-listing_refused (Ok rows) = Ok rows
-listing_refused (Err f) = Err (listing_refusal f.offset f.value)
+listing_refused r = refused_by listing_refusal r
 
 -- memory that is too short comes before any line
 abbrev pub listing_outcome : ℕ → Result (List Listed) (At ListingFault) → Result (List Listed) Refusal

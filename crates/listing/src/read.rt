@@ -3,7 +3,8 @@ ghost use Rattle.std.specs.Prelude.{◌≡◌, ◌≤◌, map, length};
 ghost use Rattle.lists.specs.Grown.{items, room};
 ghost use Rattle.words.specs.Line.{line_bytes};
 ghost use Rattle.listing.specs.Rows.{row_of, row_added, read_listing};
-ghost use Rattle.listing.specs.Shown.{listed, rows_told, listing_outcome, rows_shown};
+ghost use Rattle.listing.specs.Shown.{listed, listing_outcome, rows_shown};
+ghost use Rattle.terms.specs.Faulty.{told};
 
 use super::entry::row_at;
 use super::fault::ListingFault;
@@ -20,7 +21,7 @@ const ROWS: usize = 512;
 fn add_row(rows: &mut GrowList<Row>, line: Line) -> Result<(), ListingFault>
     requires { 512 ≤ room rows.old }
     ensures room { room rows.new ≡ room rows.old }
-    ensures said { rows_told result (map (listed line.entry.text.now) (items rows.new)) ≡ row_added (map (listed line.entry.text.now) (items rows.old)) (row_of (line_bytes line.entry)) }
+    ensures said { told result (map (listed line.entry.text.now) (items rows.new)) ≡ row_added (map (listed line.entry.text.now) (items rows.old)) (row_of (line_bytes line.entry)) }
 {
     let row = row_at(line).ok_or(ListingFault::BadLine)?;
     let name = row.name.of(line.text);

@@ -4,8 +4,7 @@
 mod grow;
 mod grown;
 mod lookup;
-mod parts;
 
 pub use grow::GrowList;
 pub use lookup::{find_name, first};
-pub use parts::part;
+pub use terms::part;

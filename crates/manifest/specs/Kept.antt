@@ -1,5 +1,5 @@
 -- What was read of a manifest so far. Assumes nothing.
-use Rattle.std.specs.Prelude.{ℕ, List, map, Ok, Err, Result}
+use Rattle.std.specs.Prelude.{ℕ, List, map}
 use Rattle.lists.specs.Grown.{items}
 use Rattle.manifest.specs.declared.reader.Reader.{Reader}
 use Rattle.manifest.specs.Books.{Book, Reading}
@@ -10,8 +10,3 @@ book_of text r = record { rules = map (declaration text) (items r.rules); statem
 
 abbrev pub reading_of : List ℕ → Reader → Reading
 reading_of text r = record { book = book_of text r; owner = r.owner }
-
--- what was read then, or what is wrong
-abbrev pub told : {A F : Type 0} → Result A F → Reading → Result Reading F
-told (Ok x) s = Ok s
-told (Err f) s = Err f

@@ -1,6 +1,7 @@
 -- What reading a manifest gives. Assumes nothing.
 use Rattle.std.specs.Prelude.{ℕ, cond, map, Ok, Err, Result, nat_lt}
 use Rattle.terms.specs.declared.At.{At}
+use Rattle.terms.specs.Faulty.{refused_by}
 use Rattle.terms.specs.declared.Refusal.{Refusal}
 use Rattle.terms.specs.declared.Refusal.TheVariants as refusal
 use Rattle.manifest.specs.declared.fault.Fault.{Fault}
@@ -9,12 +10,8 @@ use Rattle.manifest.specs.Books.{Book}
 use Rattle.manifest.specs.Faults.{fault_refusal}
 use Rattle.manifest.specs.Views.{declaration, making}
 
-abbrev pub refusal_of : At Fault → Refusal
-refusal_of f = fault_refusal f.offset f.value
-
 abbrev pub refused : {A : Type 0} → Result A (At Fault) → Result A Refusal
-refused (Ok b) = Ok b
-refused (Err f) = Err (refusal_of f)
+refused r = refused_by fault_refusal r
 
 -- the first memory that is too short comes before any line
 abbrev pub manifest_outcome : (rules statements words : ℕ) → Result Book (At Fault) → Result Book Refusal

@@ -9,7 +9,8 @@ ghost use Rattle.manifest.specs.declared.fault.Fault.TheVariants.{MadeTwice};
 ghost use Rattle.manifest.specs.Building.{rule_of, build_of};
 ghost use Rattle.manifest.specs.Books.{rule_number, twice, is_over, add_statement, declared_by, stated_by, read_rule, read_build, read_indented, read_line, read_lines, keeping};
 ghost use Rattle.manifest.specs.Groups.{built_shown, word_name, WordSums, BuildSums};
-ghost use Rattle.manifest.specs.Kept.{book_of, reading_of, told};
+ghost use Rattle.manifest.specs.Kept.{book_of, reading_of};
+ghost use Rattle.terms.specs.Faulty.{told};
 ghost use Rattle.manifest.specs.Outcomes.{refused};
 ghost use Rattle.manifest.specs.Views.{declaration};
 

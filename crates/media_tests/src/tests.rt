@@ -47,18 +47,18 @@ fn on_pile(plan: Plan, out: &mut [u8]) -> Result<usize, Fault> {
     survivors(&mut two, out)
 }
 
-// A failure at `step`, counted from 1 on, where 0 never comes, and `side` leaves a first part of the old live bytes, "zabcd",
+// A failure at `step`, counted from 1 on, and `side` leaves a first part of the old live bytes, "zabcd",
 // or, once promoted, of the draft, "xyzw": as long as `left` says where none, one and all of the pending bytes are kept.
 #[derive(Clone, Copy, Drop)]
 struct Row {
-    step: u64,
+    step: Option<u64>,
     side: Side,
     promoted: bool,
     left: [usize; 3],
 }
 
-impl From<(u64, Side, bool, [usize; 3])> for Row {
-    fn from((step, side, promoted, left): (u64, Side, bool, [usize; 3])) -> Row {
+impl From<(Option<u64>, Side, bool, [usize; 3])> for Row {
+    fn from((step, side, promoted, left): (Option<u64>, Side, bool, [usize; 3])) -> Row {
         Row {
             step,
             side,
@@ -78,7 +78,7 @@ where
     for (keep, left) in [0, 1, 9].into_iter().zip(row.left) {
         let mut out = [0; 8];
         let plan = Plan {
-            after: row.step.checked_sub(1),
+            after: row.step.map(|step| step.saturating_sub(1)),
             keep,
             side: row.side,
         };
@@ -91,49 +91,49 @@ where
 }
 
 // Step, side, promoted, left.
-const BENCH: [(u64, Side, bool, [usize; 3]); 20] = [
-    (0, Old, true, [4, 4, 4]),
-    (1, Old, false, [1, 2, 3]),
-    (1, Draft, false, [1, 2, 3]),
-    (2, Old, false, [1, 2, 3]),
-    (2, Draft, false, [1, 2, 3]),
-    (3, Old, false, [3, 4, 5]),
-    (3, Draft, false, [3, 4, 5]),
-    (4, Old, false, [3, 4, 5]),
-    (4, Draft, false, [3, 4, 5]),
-    (5, Old, false, [3, 4, 5]),
-    (5, Draft, false, [3, 4, 5]),
-    (6, Old, false, [3, 4, 5]),
-    (6, Draft, false, [3, 4, 5]),
-    (7, Old, false, [3, 4, 5]),
-    (7, Draft, false, [3, 4, 5]),
-    (8, Old, false, [3, 4, 5]),
-    (8, Draft, true, [3, 4, 4]),
-    (9, Old, true, [3, 4, 4]),
-    (9, Draft, true, [3, 4, 4]),
-    (10, Draft, true, [4, 4, 4]),
+const BENCH: [(Option<u64>, Side, bool, [usize; 3]); 20] = [
+    (None, Old, true, [4, 4, 4]),
+    (Some(1), Old, false, [1, 2, 3]),
+    (Some(1), Draft, false, [1, 2, 3]),
+    (Some(2), Old, false, [1, 2, 3]),
+    (Some(2), Draft, false, [1, 2, 3]),
+    (Some(3), Old, false, [3, 4, 5]),
+    (Some(3), Draft, false, [3, 4, 5]),
+    (Some(4), Old, false, [3, 4, 5]),
+    (Some(4), Draft, false, [3, 4, 5]),
+    (Some(5), Old, false, [3, 4, 5]),
+    (Some(5), Draft, false, [3, 4, 5]),
+    (Some(6), Old, false, [3, 4, 5]),
+    (Some(6), Draft, false, [3, 4, 5]),
+    (Some(7), Old, false, [3, 4, 5]),
+    (Some(7), Draft, false, [3, 4, 5]),
+    (Some(8), Old, false, [3, 4, 5]),
+    (Some(8), Draft, true, [3, 4, 4]),
+    (Some(9), Old, true, [3, 4, 4]),
+    (Some(9), Draft, true, [3, 4, 4]),
+    (Some(10), Draft, true, [4, 4, 4]),
 ];
 
 // The buffers hold "cd" back, and a granted promote drops it: eight steps on the bench below.
-const PILE: [(u64, Side, bool, [usize; 3]); 18] = [
-    (0, Old, true, [4, 4, 4]),
-    (1, Old, false, [1, 2, 3]),
-    (1, Draft, false, [1, 2, 3]),
-    (2, Old, false, [1, 2, 3]),
-    (2, Draft, false, [1, 2, 3]),
-    (3, Old, false, [3, 3, 3]),
-    (3, Draft, false, [3, 3, 3]),
-    (4, Old, false, [3, 3, 3]),
-    (4, Draft, false, [3, 3, 3]),
-    (5, Old, false, [3, 3, 3]),
-    (5, Draft, false, [3, 3, 3]),
-    (6, Old, false, [3, 3, 3]),
-    (6, Draft, false, [3, 3, 3]),
-    (7, Old, false, [3, 3, 3]),
-    (7, Draft, true, [3, 4, 4]),
-    (8, Old, true, [3, 4, 4]),
-    (8, Draft, true, [3, 4, 4]),
-    (9, Draft, true, [4, 4, 4]),
+const PILE: [(Option<u64>, Side, bool, [usize; 3]); 18] = [
+    (None, Old, true, [4, 4, 4]),
+    (Some(1), Old, false, [1, 2, 3]),
+    (Some(1), Draft, false, [1, 2, 3]),
+    (Some(2), Old, false, [1, 2, 3]),
+    (Some(2), Draft, false, [1, 2, 3]),
+    (Some(3), Old, false, [3, 3, 3]),
+    (Some(3), Draft, false, [3, 3, 3]),
+    (Some(4), Old, false, [3, 3, 3]),
+    (Some(4), Draft, false, [3, 3, 3]),
+    (Some(5), Old, false, [3, 3, 3]),
+    (Some(5), Draft, false, [3, 3, 3]),
+    (Some(6), Old, false, [3, 3, 3]),
+    (Some(6), Draft, false, [3, 3, 3]),
+    (Some(7), Old, false, [3, 3, 3]),
+    (Some(7), Draft, true, [3, 4, 4]),
+    (Some(8), Old, true, [3, 4, 4]),
+    (Some(8), Draft, true, [3, 4, 4]),
+    (Some(9), Draft, true, [4, 4, 4]),
 ];
 
 #[test]
@@ -163,11 +163,11 @@ fn thrice<M: Medium>(m: &mut M) -> Result<usize, Fault> {
     m.length()
 }
 
-fn thrice_on_pile(step: u64, keep: usize) -> Result<usize, Fault> {
+fn thrice_on_pile(step: Option<u64>, keep: usize) -> Result<usize, Fault> {
     let mut live = [0; 1000];
     let mut draft = [0; 1000];
     let plan = Plan {
-        after: step.checked_sub(1),
+        after: step.map(|step| step.saturating_sub(1)),
         keep,
         side: Old,
     };
@@ -181,11 +181,11 @@ fn thrice_on_pile(step: u64, keep: usize) -> Result<usize, Fault> {
 #[test]
 fn a_pile_passes_what_is_too_much(rt: HostRuntime) -> Result<(), Fail> {
     for (step, keep, left) in [
-        (0, 0, 900),
-        (3, 650, 650),
-        (3, 1000, 900),
-        (4, 0, 0),
-        (4, 899, 899),
+        (None, 0, 900),
+        (Some(3), 650, 650),
+        (Some(3), 1000, 900),
+        (Some(4), 0, 0),
+        (Some(4), 899, 899),
     ] {
         assert_eq!(rt; thrice_on_pile(step, keep)?, left);
     }

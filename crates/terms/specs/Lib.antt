@@ -1,3 +1,4 @@
+pub mod Faulty
 pub mod Few
 pub mod Lists
 pub mod Names

@@ -1,11 +1,13 @@
-// Making a list of few elements, what it holds, and how it grows.
-ghost use Rattle.std.specs.Prelude.{◌≡◌, ◌+◌, ◌≤◌, ⊤, [], ◌++◌, length, take, Ok, Err, if◌then◌else◌, nat_le, nat_lt};
+// Making a list of few elements, what it holds, and how it grows. Alike to a list over lent memory, and apart from it: this one is copied with the value in which it
+// lies, and that one promises whose memory it holds.
+ghost use Rattle.std.specs.Prelude.{◌≡◌, ◌+◌, ◌≤◌, ⊤, [], ◌++◌, length, Ok, Err, if◌then◌else◌, nat_le, nat_lt};
 ghost use Rattle.terms.specs.Few.{items};
 ghost use Rattle.terms.specs.Lists.{◌▷◌};
 
 use crate::{Few, NoRoom};
 use std::alloc::AllocError;
 
+// By hand: a derive is refused over the ghost fields of a generic struct.
 impl<T: Copy, const N: usize> Clone for Few<T, N> {
     ghost is_clone = { λ x y. y ≡ x };
 
@@ -61,12 +63,5 @@ impl<T: Copy, const N: usize> Few<T, N> {
         slots[self.len..past].copy_from_slice(more);
         self.len = past;
         Ok(())
-    }
-
-    // Keeps at most the first `len` elements.
-    pub fn truncate(&mut self, len: usize)
-        ensures { items self.new ≡ take len (items self.old) }
-    {
-        self.len = self.len.min(len);
     }
 }

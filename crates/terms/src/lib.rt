@@ -1,4 +1,4 @@
-// What every layer shares: a value with its offset, a place in some bytes, a found entry, and the refusals.
+// What every layer shares: a value with its offset, a place in some bytes, parts of slices, names, lists of few elements, a found entry, and the refusals.
 #![tactic(auto)]
 
 ghost use Rattle.std.specs.Prelude.{◌≡◌};
@@ -9,10 +9,12 @@ mod faults;
 mod few;
 mod fews;
 mod names;
+mod parts;
 
 pub use faults::LineFault;
 pub use few::Few;
 pub use names::is_name;
+pub use parts::part;
 use std::error::Error;
 use std::fmt;
 
@@ -35,8 +37,7 @@ impl Place {
     pub fn of(self, bytes: &[u8]) -> &[u8]
         ensures { result.now ≡ at_place bytes.now self }
     {
-        let rest = &bytes[self.start.min(bytes.len())..];
-        &rest[..self.length.min(rest.len())]
+        part(bytes, self.start, self.length)
     }
 }
 

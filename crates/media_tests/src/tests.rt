@@ -57,8 +57,11 @@ struct Row {
     left: [usize; 3],
 }
 
-impl From<(Option<u64>, Side, bool, [usize; 3])> for Row {
-    fn from((step, side, promoted, left): (Option<u64>, Side, bool, [usize; 3])) -> Row {
+// Step, side, promoted, left.
+type Columns = (Option<u64>, Side, bool, [usize; 3]);
+
+impl From<Columns> for Row {
+    fn from((step, side, promoted, left): Columns) -> Row {
         Row {
             step,
             side,
@@ -90,8 +93,7 @@ where
     Ok(())
 }
 
-// Step, side, promoted, left.
-const BENCH: [(Option<u64>, Side, bool, [usize; 3]); 20] = [
+const BENCH: [Columns; 20] = [
     (None, Old, true, [4, 4, 4]),
     (Some(1), Old, false, [1, 2, 3]),
     (Some(1), Draft, false, [1, 2, 3]),
@@ -115,7 +117,7 @@ const BENCH: [(Option<u64>, Side, bool, [usize; 3]); 20] = [
 ];
 
 // The buffers hold "cd" back, and a granted promote drops it: eight steps on the bench below.
-const PILE: [(Option<u64>, Side, bool, [usize; 3]); 18] = [
+const PILE: [Columns; 18] = [
     (None, Old, true, [4, 4, 4]),
     (Some(1), Old, false, [1, 2, 3]),
     (Some(1), Draft, false, [1, 2, 3]),
@@ -136,20 +138,25 @@ const PILE: [(Option<u64>, Side, bool, [usize; 3]); 18] = [
     (Some(9), Draft, true, [4, 4, 4]),
 ];
 
-#[test]
-fn bench_fails_where_it_is_told(rt: HostRuntime) -> Result<(), Fail> {
-    for row in BENCH {
-        check_row(&rt, row.into(), on_bench)?;
+fn check_rows<F>(rt: &impl Abort, rows: &[Columns], told: F) -> Result<(), Fail>
+where
+    F: Copy + Fn(Plan, &mut [u8]) -> Result<usize, Fault>,
+    requires { F.IsAlwaysCallable told }
+{
+    for row in rows {
+        check_row(rt, (*row).into(), told)?;
     }
     Ok(())
 }
 
 #[test]
+fn bench_fails_where_it_is_told(rt: HostRuntime) -> Result<(), Fail> {
+    check_rows(&rt, &BENCH, on_bench)
+}
+
+#[test]
 fn a_pile_loses_what_it_holds(rt: HostRuntime) -> Result<(), Fail> {
-    for row in PILE {
-        check_row(&rt, row.into(), on_pile)?;
-    }
-    Ok(())
+    check_rows(&rt, &PILE, on_pile)
 }
 
 // How many bytes are live after three appends of 300 bytes and a sync.

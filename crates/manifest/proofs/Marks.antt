@@ -1,5 +1,5 @@
 -- Names and marks, token by token. Assumes nothing.
-use Rattle.std.proofs.Common.{◌≡◌, ℕ, ◌+◌, ◌<◌, ◌≤◌, Bool, true, false, ◌||◌, List, [], ◌∷◌, length, drop, Some, None, Option, sym, refl, ap, ◌∙◌, arith}
+use Rattle.std.proofs.Common.{◌≡◌, ℕ, ◌+◌, ◌≤◌, Bool, true, false, ◌||◌, List, [], ◌∷◌, length, drop, Some, None, Option, sym, refl, ap, ◌∙◌, arith}
 use Rattle.std.proofs.lemmas.Bool.{cond-true, cond-false}
 use Rattle.terms.specs.Lists.{empty, some}
 use Rattle.words.specs.declared.spelling.Word.{Word}
@@ -79,20 +79,6 @@ pub record Turn (xs : List ℕ) (at here n : ℕ) (over : Bool) : Type 0 where
   pub long : (over || some is_long (names_of (tokens (drop here xs)))) ≡ some is_long (names_of (tokens (drop at xs)))
   pub marks : marks_of (tokens (drop here xs)) ≡ marks_of (tokens (drop at xs))
   pub on : n + at ≤ here
-
-or_assoc : (x y z : Bool) → ((x || y) || z) ≡ (x || (y || z))
-or_assoc true y z = refl
-or_assoc false y z = refl
-
-pub turn_word : (xs : List ℕ) (at here next n : ℕ) (long over : Bool) (name : List ℕ) → tokens (drop here xs) ≡ named name ∷ tokens (drop next xs) → over ≡ (long || is_long name) → here < next →
-    Turn xs at here n long → Turn xs at next (n + 1) over
-turn_word xs at here next n long over name e f h t = record {
-  count = omega (arith, t.count, ap (λ ts. length (names_of ts)) e);
-  long = ap (λ (v : Bool). v || some is_long (names_of (tokens (drop next xs)))) f ∙ or_assoc long (is_long name) (some is_long (names_of (tokens (drop next xs)))) ∙
-      ap (λ ts. long || some is_long (names_of ts)) (sym e) ∙ t.long;
-  marks = ap marks_of (sym e) ∙ t.marks;
-  on = omega (arith, t.on);
-}
 
 or_none : (x : Bool) → (x || false) ≡ x
 or_none true = refl

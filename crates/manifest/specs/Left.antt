@@ -1,5 +1,5 @@
 -- The words that are left of a line, up to a mark. Assumes nothing.
-use Rattle.std.specs.Prelude.{◌≡◌, ℕ, ◌+◌, ◌<◌, ◌≤◌, List, [], ◌∷◌, length, drop, Some, None, Option}
+use Rattle.std.specs.Prelude.{◌≡◌, ◌+◌, ◌<◌, ◌≤◌, List, [], ◌∷◌, length, drop, Some, None, Option}
 use Rattle.words.specs.declared.spelling.Word.{Word}
 use Rattle.words.specs.Spelling.{name_at}
 use Rattle.words.specs.Tokens.{Lexeme, named, tokens}

@@ -1,4 +1,4 @@
-use Rattle.std.proofs.Common.{◌≡◌, ℕ, ◌+◌, ◌≤◌, List, ◌∷◌, length, take, drop, sym, refl, ap, ◌∙◌, subst, arith}
+use Rattle.std.proofs.Common.{ℕ, List, length, take, drop, sym, refl, ap, ◌∙◌, subst, arith}
 use Rattle.std.specs.Result.{IsOk}
 use Rattle.lists.specs.Grown.{items, room}
 use Rattle.lists.proofs.Pushed.{taken}
@@ -29,8 +29,7 @@ loop-word-preserved c =
     let so = items c.loop-word.words in
     let all = names_of (tokens (drop c.args.at (take c.args.line.end text))) in
     let here = ap (λ (ys : List ℕ). name_at ys w.place) i.2 ∙ name-within text c.args.line.end w.place (omega (arith, k.within, ap length i.2)) in
-    let s = subst (λ (ns : List (List ℕ)). Storing text old so ns all) (ap names_of k.first) i.3 in
-    (
+    let s = subst (λ (ns : List (List ℕ)). Storing text old so ns all) (ap names_of k.first) i.3 in (
       tt,
       tt,
       k.same ∙ i.2,

@@ -1,5 +1,5 @@
 // Making a list over lent memory, what it holds, and how it grows.
-ghost use Rattle.std.specs.Prelude.{◌≡◌, ◌≤◌, [], length, Ok, Err, if◌then◌else◌, nat_lt, slice_set, take};
+ghost use Rattle.std.specs.Prelude.{◌≡◌, ◌≤◌, [], length, Ok, Err, if◌then◌else◌, nat_lt, slice_set};
 ghost use Rattle.std.specs.List.{slice_get};
 ghost use Rattle.terms.specs.Lists.{◌▷◌};
 ghost use Rattle.lists.specs.Grown.{items, room, over, lender};
@@ -74,15 +74,6 @@ impl<'a, T: Copy> GrowList<'a, T> {
         if i < self.len {
             self.memory[i] = x;
         }
-    }
-
-    // Keeps at most the first `len` elements.
-    pub fn truncate(&mut self, len: usize)
-        ensures items { items self.new ≡ take len (items self.old) }
-        ensures over { over self.new ≡ over self.old }
-        ensures lender { lender self.new ≡ lender self.old }
-    {
-        self.len = self.len.min(len);
     }
 
     pub fn clear(&mut self)

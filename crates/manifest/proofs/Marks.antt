@@ -1,5 +1,5 @@
 -- Names and marks, token by token. Assumes nothing.
-use Rattle.std.proofs.Common.{◌≡◌, ℕ, ◌+◌, ◌<◌, ◌≤◌, Bool, true, false, ◌||◌, List, [], ◌∷◌, length, drop, Some, None, Option, sym, refl, ap, ◌∙◌, arith}
+use Rattle.std.proofs.Common.{◌≡◌, ℕ, ◌+◌, ◌≤◌, Bool, true, false, ◌||◌, List, [], ◌∷◌, length, drop, Some, None, Option, sym, refl, ap, ◌∙◌, arith}
 use Rattle.std.proofs.lemmas.Bool.{cond-true, cond-false}
 use Rattle.terms.specs.Lists.{empty, some}
 use Rattle.words.specs.declared.spelling.Word.{Word}
@@ -57,6 +57,15 @@ is_mark token.Wrong n = tt
 is_mark (token.Word w) n = n w refl
 is_mark token.End n = tt
 
+-- what stands where no name does is no word
+pub no_word : (xs : List ℕ) (t : Token) (next : ℕ) → names_of (rest xs t next) ≡ [] → IsMark t
+no_word xs token.Colon next e = tt
+no_word xs token.Bar next e = tt
+no_word xs token.Bars next e = tt
+no_word xs token.Wrong next e = tt
+no_word xs (token.Word w) next e = absurd (omega (arith, ap length e))
+no_word xs token.End next e = tt
+
 -- a word that was read stands first
 pub word_first : (xs : List ℕ) (at next : ℕ) (t : Token) (w : Word) → shown xs t ≡ (front_token (drop at xs)).0 → next ≡ at + (front_token (drop at xs)).1 → t ≡ token.Word w →
     tokens (drop at xs) ≡ named (name_at xs w.place) ∷ tokens (drop next xs)
@@ -70,20 +79,6 @@ pub record Turn (xs : List ℕ) (at here n : ℕ) (over : Bool) : Type 0 where
   pub long : (over || some is_long (names_of (tokens (drop here xs)))) ≡ some is_long (names_of (tokens (drop at xs)))
   pub marks : marks_of (tokens (drop here xs)) ≡ marks_of (tokens (drop at xs))
   pub on : n + at ≤ here
-
-or_assoc : (x y z : Bool) → ((x || y) || z) ≡ (x || (y || z))
-or_assoc true y z = refl
-or_assoc false y z = refl
-
-pub turn_word : (xs : List ℕ) (at here next n : ℕ) (long over : Bool) (name : List ℕ) → tokens (drop here xs) ≡ named name ∷ tokens (drop next xs) → over ≡ (long || is_long name) → here < next →
-    Turn xs at here n long → Turn xs at next (n + 1) over
-turn_word xs at here next n long over name e f h t = record {
-  count = omega (arith, t.count, ap (λ ts. length (names_of ts)) e);
-  long = ap (λ (v : Bool). v || some is_long (names_of (tokens (drop next xs)))) f ∙ or_assoc long (is_long name) (some is_long (names_of (tokens (drop next xs)))) ∙
-      ap (λ ts. long || some is_long (names_of ts)) (sym e) ∙ t.long;
-  marks = ap marks_of (sym e) ∙ t.marks;
-  on = omega (arith, t.on);
-}
 
 or_none : (x : Bool) → (x || false) ≡ x
 or_none true = refl
@@ -101,6 +96,13 @@ turn_mark xs at here next n long t e m u =
       };
       marks = sym (mark_marks xs t next m) ∙ ap marks_of (sym e) ∙ u.marks;
     }
+
+-- the same of a token that stands where no name does
+pub turn_none : (xs : List ℕ) (at here behind next n : ℕ) (long : Bool) (t : Token) → shown xs t ≡ (front_token (drop behind xs)).0 → next ≡ behind + (front_token (drop behind xs)).1 → behind ≡ here →
+    names_of (tokens (drop here xs)) ≡ [] → Turn xs at here n long → Gathered xs at (record { at = at; count = n; long = long; mark = t; next = next })
+turn_none xs at here behind next n long t e f b none u =
+    let g : tokens (drop here xs) ≡ rest xs t next = ap (λ (k : ℕ). tokens (drop k xs)) (sym b) ∙ token-is xs behind next t e f in
+    turn_mark xs at here next n long t g (no_word xs t next (sym (ap names_of g) ∙ none)) u
 
 -- Behind marks -------------------------------------------------------------------------------------------------------------
 

@@ -5,6 +5,7 @@ pub mod Faults
 pub mod Groups
 pub mod Kept
 pub mod Kinds
+pub mod Left
 pub mod Outcomes
 pub mod Sound
 pub mod Stored

@@ -6,6 +6,7 @@ use lists::part;
 use words::{Class, all_of, begins, span_end};
 
 // Whether the binding that stands from `at` on is `deps = gcc`; none where it is no binding. A bool within: no other binding is told apart from the rest.
+// It takes the bytes and an offset as `words::span_end` does, and hands them on.
 pub(super) fn binding_at(bytes: &[u8], at: usize) -> Option<bool>
     ensures { result ≡ binding_of (drop at bytes.now) }
 {

@@ -5,29 +5,28 @@ ghost use Rattle.manifest.specs.Groups.{rest, group_names, is_mark, PartsInputs,
 
 use super::group::Group;
 use super::limits::LONGEST;
+use super::words_left::WordsLeft;
 use words::{Token, next_token};
 
-// The words from `at` on. A loop, and no `for`: where a token begins is known once the one before it is read, and the mark that ends the words is wanted too.
+// The words from `at` on, and the mark behind them.
 pub(super) fn group_at(bytes: &[u8], at: usize) -> Group
     ensures { Gathered bytes.now at result }
 {
+    let mut words = WordsLeft { bytes, at };
     let mut count = 0;
     let mut long = false;
-    let mut here = at;
-    'words: loop {
-        let (token, next) = next_token(bytes, here);
-        let Token::Word(word) = token else {
-            return Group {
-                at,
-                count,
-                long,
-                mark: token,
-                next,
-            };
-        };
+    // A `while let`, and no `for` over `&mut words`: where the words are left off is wanted behind it, and what such a borrow gives back was not proved.
+    while let Some(word) = words.next() {
         count += 1;
         long = long || word.length > LONGEST;
-        here = next;
+    }
+    let (mark, next) = next_token(bytes, words.at);
+    Group {
+        at,
+        count,
+        long,
+        mark,
+        next,
     }
 }
 

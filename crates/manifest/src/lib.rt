@@ -18,6 +18,7 @@ mod reader;
 mod readers;
 mod rule;
 mod store;
+mod words_left;
 
 pub use fault::Fault;
 pub use kind::Kind;

@@ -5,7 +5,7 @@ ghost use Rattle.manifest.specs.Kinds.{kind_of, Behind};
 use super::kind::Kind;
 use words::{Class, all_of, begins};
 
-// What the line that stands from `at` on is.
+// What the line that stands from `at` on is. It takes the bytes and an offset as `words::span_end` does, and hands them on.
 pub fn kind_at(bytes: &[u8], at: usize) -> Kind
     ensures kind { result ≡ kind_of (drop at bytes.now) }
     ensures behind { Behind result at (length bytes.now) }

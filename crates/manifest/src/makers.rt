@@ -25,7 +25,8 @@ pub fn is_among(text: &[u8], words: &[Place], name: Path) -> bool
     first(words, |word| Path::Spelled(word.of(text)), &name).is_some()
 }
 
-// The number of the statement that makes a path. Text, statements and words stand apart, and not in a Manifest, since the reader asks of lists that still grow.
+// The number of the statement that makes a path. Text, statements and words stand apart, and not in a Manifest: the call is public, and
+// its signature would change for no gain of its callers.
 pub fn maker(text: &[u8], statements: &[Statement], words: &[Place], name: Path) -> Option<usize>
     ensures { result ≡ maker_of (map (making text.now words.now) statements.now) (path_name name.entry) }
 {
@@ -44,6 +45,7 @@ pub(super) fn made_twice(
     ensures { result ≡ twice (map (making text.now words.now) statements.now) (map (name_at text.now) outputs.now) }
 {
     let mut left = outputs;
+    // A `while let`, and no `for`: each output is looked for among those behind it, which an iterator over the elements does not hand out.
     while let Some((output, others)) = left.split_first() {
         let name = Path::Spelled(output.of(text));
         if maker(text, statements, words, name).is_some() {

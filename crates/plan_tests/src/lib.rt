@@ -23,7 +23,7 @@ mod tests {
         words: usize,
     }
 
-    fn tally(
+    const fn tally(
         rules: usize,
         keeping: usize,
         statements: usize,
@@ -70,53 +70,55 @@ mod tests {
         Ok(read.rows.len())
     }
 
+    // A manifest, and what it says.
+    const MANIFESTS: [(&[u8], Result<Counts, Refusal>); 24] = [
+        (b"", tally(0, 0, 0, 0)),
+        (b"\n   \n# rule\ndefault\x01\n", tally(0, 0, 0, 0)),
+        (
+            b"rule cc\n  deps = gcc\nbuild a.o: cc a.c\nbuild b.o: cc a.o || maps\n",
+            tally(1, 1, 2, 5),
+        ),
+        (
+            b"rule cc\n command = $cc -c\n deps = gcc \n depfile=\nbuild a: cc",
+            tally(1, 0, 1, 1),
+        ),
+        (b"rule $:$ $$\nbuild x:$:$ $$ a|b||c", tally(1, 0, 1, 4)),
+        (b"rule a\nbuild b:a|c\n \x01 what\n", tally(1, 0, 1, 2)),
+        (b"rule a\nrule", Err(Refusal::ManifestLine(2))),
+        (b"rule a b", Err(Refusal::ManifestLine(1))),
+        (b"rule a\nbuild : a", Err(Refusal::ManifestLine(2))),
+        (b"rule a\nbuild b a", Err(Refusal::ManifestLine(2))),
+        (
+            b"rule a\nbuild b: a c || d | e",
+            Err(Refusal::ManifestLine(2)),
+        ),
+        (
+            b"rule a\nbuild b: a c | d | e",
+            Err(Refusal::ManifestLine(2)),
+        ),
+        (b"rule a\nbuild b: a c$d", Err(Refusal::ManifestLine(2))),
+        (b"rule a\nbuild b: a c$", Err(Refusal::ManifestLine(2))),
+        (b"rule a\n\n\nbuild b:\ta", Err(Refusal::ManifestLine(4))),
+        (b"  deps = gcc", Err(Refusal::ManifestLine(1))),
+        (b"rule a\n  = gcc", Err(Refusal::ManifestLine(2))),
+        (b"rule a\n  deps\tx = gcc", Err(Refusal::ManifestLine(2))),
+        (b"cc = gcc", Err(Refusal::ManifestLine(1))),
+        (b"rule a\nrule a", Err(Refusal::RuleDeclared(2))),
+        (b"build b: phony", Err(Refusal::RuleDeclared(1))),
+        (b"rule a\nbuild b c b: a", Err(Refusal::MadeTwice(2))),
+        (
+            b"rule a\nbuild b: a\nbuild c b: a",
+            Err(Refusal::MadeTwice(3)),
+        ),
+        (
+            b"rule a\nbuild $:$ : a\nbuild c $:$ : a",
+            Err(Refusal::MadeTwice(3)),
+        ),
+    ];
+
     #[test]
     fn manifest_lines(rt: HostRuntime) {
-        let cases: [(&[u8], Result<Counts, Refusal>); 24] = [
-            (b"", tally(0, 0, 0, 0)),
-            (b"\n   \n# rule\ndefault\x01\n", tally(0, 0, 0, 0)),
-            (
-                b"rule cc\n  deps = gcc\nbuild a.o: cc a.c\nbuild b.o: cc a.o || maps\n",
-                tally(1, 1, 2, 5),
-            ),
-            (
-                b"rule cc\n command = $cc -c\n deps = gcc \n depfile=\nbuild a: cc",
-                tally(1, 0, 1, 1),
-            ),
-            (b"rule $:$ $$\nbuild x:$:$ $$ a|b||c", tally(1, 0, 1, 4)),
-            (b"rule a\nbuild b:a|c\n \x01 what\n", tally(1, 0, 1, 2)),
-            (b"rule a\nrule", Err(Refusal::ManifestLine(2))),
-            (b"rule a b", Err(Refusal::ManifestLine(1))),
-            (b"rule a\nbuild : a", Err(Refusal::ManifestLine(2))),
-            (b"rule a\nbuild b a", Err(Refusal::ManifestLine(2))),
-            (
-                b"rule a\nbuild b: a c || d | e",
-                Err(Refusal::ManifestLine(2)),
-            ),
-            (
-                b"rule a\nbuild b: a c | d | e",
-                Err(Refusal::ManifestLine(2)),
-            ),
-            (b"rule a\nbuild b: a c$d", Err(Refusal::ManifestLine(2))),
-            (b"rule a\nbuild b: a c$", Err(Refusal::ManifestLine(2))),
-            (b"rule a\n\n\nbuild b:\ta", Err(Refusal::ManifestLine(4))),
-            (b"  deps = gcc", Err(Refusal::ManifestLine(1))),
-            (b"rule a\n  = gcc", Err(Refusal::ManifestLine(2))),
-            (b"rule a\n  deps\tx = gcc", Err(Refusal::ManifestLine(2))),
-            (b"cc = gcc", Err(Refusal::ManifestLine(1))),
-            (b"rule a\nrule a", Err(Refusal::RuleDeclared(2))),
-            (b"build b: phony", Err(Refusal::RuleDeclared(1))),
-            (b"rule a\nbuild b c b: a", Err(Refusal::MadeTwice(2))),
-            (
-                b"rule a\nbuild b: a\nbuild c b: a",
-                Err(Refusal::MadeTwice(3)),
-            ),
-            (
-                b"rule a\nbuild $:$ : a\nbuild c $:$ : a",
-                Err(Refusal::MadeTwice(3)),
-            ),
-        ];
-        for (text, expected) in cases {
+        for (text, expected) in MANIFESTS {
             assert_eq!(rt; counted(text), expected);
         }
     }

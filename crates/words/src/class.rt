@@ -46,14 +46,14 @@ pub fn span_end(bytes: &[u8], at: usize, class: Class) -> usize
     at + bytes.iter().skip(at).take_while(|b| class.has(**b)).count()
 }
 
-// Whether all bytes from `at` on are of a class.
+// Whether all bytes from `at` on are of a class. It takes the bytes and an offset as `span_end` does, so that a line is read with the same two.
 pub fn all_of(bytes: &[u8], at: usize, class: Class) -> bool
     ensures { result ≡ every (is_of class) (drop at bytes.now) }
 {
     bytes.iter().skip(at).all(|b| class.has(*b))
 }
 
-// Whether the bytes from `at` on begin with these.
+// Whether the bytes from `at` on begin with these; of bytes and an offset, as `span_end`.
 pub fn begins(bytes: &[u8], at: usize, with: &[u8]) -> bool
     ensures { result ≡ bytes_eq (take (length with.now) (drop at bytes.now)) with.now }
 {

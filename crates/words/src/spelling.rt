@@ -14,6 +14,8 @@ pub struct Word {
     pub length: usize,
 }
 
+// Whether a word ends before this byte. It is no case of `Class`, and `takes_sign` neither: a run of such bytes is never asked for, and a
+// parameter that tells the two apart would move their bytes to the callers.
 fn ends_word(b: u8) -> bool
     ensures { result ≡ ends b }
 {
@@ -27,17 +29,21 @@ fn takes_sign(b: u8) -> bool
     matches!(char::from(b), ' ' | ':' | '$')
 }
 
-// What follows one byte of the name as the next bytes spell it, or nothing where the word ends before them; none where a `$` stands before a byte that takes none.
-fn step(rest: &[u8]) -> Option<Option<&[u8]>>
+// A `$` stands before a byte that takes none.
+#[derive(Drop)]
+struct WrongSign;
+
+// What follows one byte of the name as the next bytes spell it, or nothing where the word ends before them.
+fn step(rest: &[u8]) -> Result<Option<&[u8]>, WrongSign>
     ensures step { (at n : ℕ) → measured at n (word rest.now) ≡ stepped rest.now at n result }
     ensures leads { Leads rest.now result }
 {
     match rest {
-        [] => Some(None),
-        [b, ..] if ends_word(*b) => Some(None),
-        [b'$', b, behind @ ..] if takes_sign(*b) => Some(Some(behind)),
-        [b'$', ..] => None,
-        [_, behind @ ..] => Some(Some(behind)),
+        [] => Ok(None),
+        [b, ..] if ends_word(*b) => Ok(None),
+        [b'$', b, behind @ ..] if takes_sign(*b) => Ok(Some(behind)),
+        [b'$', ..] => Err(WrongSign),
+        [_, behind @ ..] => Ok(Some(behind)),
     }
 }
 
@@ -50,7 +56,7 @@ pub fn word_at(bytes: &[u8], start: usize) -> Option<Word>
     let mut rest = front;
     let mut length = 0;
     // A loop, and no iterator over the steps: a wrong sign is no end of them, but ends the call.
-    while let Some(behind) = step(rest)? {
+    while let Some(behind) = step(rest).ok()? {
         rest = behind;
         length += 1;
     }

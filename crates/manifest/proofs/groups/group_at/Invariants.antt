@@ -1,10 +1,13 @@
-use Rattle.std.proofs.Common.{◌-◌, length}
+use Rattle.std.proofs.Common.{◌≡◌, ◌-◌, length}
 use Rattle.manifest.proofs.Marks.{Turn}
 use Rattle.manifest.proofs.groups.group_at.Given as goal
 
 -- what is left of the words gives the answer
-abbrev pub invariant-words : goal.invariant-words
-invariant-words l = Turn l.bytes l.at l.here l.count l.long
+abbrev pub invariant-loop-word : goal.invariant-loop-word
+invariant-loop-word l = record {
+  same : l.words.bytes.now ≡ l.bytes;
+  turn : Turn l.bytes l.at l.words.at l.count l.long;
+}
 
-abbrev pub decreases-words : goal.decreases-words
-decreases-words l = length l.bytes - l.here
+abbrev pub decreases-loop-word : goal.decreases-loop-word
+decreases-loop-word l = length l.words.bytes.now - l.words.at

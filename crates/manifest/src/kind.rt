@@ -5,7 +5,7 @@ pub enum Kind {
     Skipped,
     // Belongs to the last rule or statement.
     Indented,
-    // Not understood.
+    // Not understood: a kind like the others, and no None, since each line is of one and the reader says what becomes of each.
     Unclear,
     // `rule NAME`.
     Rule,

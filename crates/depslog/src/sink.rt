@@ -9,6 +9,8 @@ ghost use Rattle.depslog.specs.Sinks.{live_in_pieces, draft_in_pieces};
 
 use medium::{Fault, Medium};
 
+// The medium is handed to each call and stands in no sink: a draft's token is used up by `promote` beside it, so a value of both would be
+// taken apart where it is made.
 // That the power is on and that there is room are asked at each call: they are facts of the moment, which no type of a medium could keep, since every call may lose the power.
 pub(super) trait Sink<M: Medium> {
     // The bytes behind which they go.

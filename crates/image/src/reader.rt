@@ -1,11 +1,13 @@
 // One record of an image at an offset, and the offset of the next.
 ghost use Rattle.std.specs.Prelude.{◌≡◌, ◌≤◌, true, length, IfOk};
-ghost use Rattle.image.specs.Reading.{read_path, read_deps, odd_size, read_body, read_at};
+ghost use Rattle.image.specs.Reading.{read_path, read_deps, read_at};
+ghost use Rattle.image.specs.Heads.{body_by};
 ghost use Rattle.image.specs.Learning.{view};
 ghost use Rattle.image.specs.Shown.{shown, answered, is_good, offset_of, Leads};
 ghost use Rattle.image.specs.Laws.{ReadsBack, ReadsTorn};
 
 use super::cause::Cause;
+use super::head::{Head, Kind};
 use super::records::{Deps, Read};
 use super::table::DepsTable;
 use super::words::{all_below, unpadded};
@@ -53,30 +55,24 @@ fn read_deps<'a>(body: &'a [u8], at: usize, known: &DepsTable) -> Result<Read<'a
     }))
 }
 
-// Whether the size in a record's word is no multiple of 4, or too small.
-fn odd_size(head: u32) -> bool
-    ensures { result ≡ odd_size head }
-{
-    let size = head % 0x8000_0000;
-    let least = if head >= 0x8000_0000 { 12 } else { 8 };
-    size % 4 != 0 || size < least
-}
-
-// The record that begins with the word `head`, by the bytes that remain behind it.
-fn read_body<'a>(head: u32, rest: &'a [u8], at: usize, known: &DepsTable) -> Result<Read<'a>, Cause>
-    ensures value { shown (answered result) ≡ read_body (view known.now).names head rest.now }
+// The record that begins with a head, by the bytes that remain behind it.
+fn read_body<'a>(
+    head: Head,
+    rest: &'a [u8],
+    at: usize,
+    known: &DepsTable,
+) -> Result<Read<'a>, Cause>
+    ensures value { shown (answered result) ≡ body_by (view known.now).names head rest.now }
     ensures offset { offset_of at (answered result) ≡ at }
     ensures good { IfOk result (λ x. is_good (shown x) ≡ true) }
 {
-    let size = (head % 0x8000_0000) as usize;
-    let body = rest.get(..size).ok_or(Cause::TooLong)?;
-    if odd_size(head) {
+    let body = rest.get(..head.size).ok_or(Cause::TooLong)?;
+    if head.is_odd() {
         return Err(Cause::BadSize);
     }
-    if head >= 0x8000_0000 {
-        read_deps(body, at, known)
-    } else {
-        read_path(body, at, known)
+    match head.kind {
+        Kind::Path => read_path(body, at, known),
+        Kind::Deps => read_deps(body, at, known),
     }
 }
 
@@ -95,9 +91,9 @@ pub fn read_record<'a>(image: &'a [u8], at: usize, known: &DepsTable) -> (Read<'
     let Some((head, rest)) = image[at..].split_first_chunk::<4>() else {
         return (Read::Bad(Cause::NoWord), at);
     };
-    let head = u32::from_le_bytes(*head);
+    let head = Head::of(u32::from_le_bytes(*head));
     match read_body(head, rest, at, known) {
-        Ok(read) => (read, at + 4 + (head % 0x8000_0000) as usize),
+        Ok(read) => (read, at + 4 + head.size),
         Err(cause) => (Read::Bad(cause), at),
     }
 }

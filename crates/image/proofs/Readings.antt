@@ -7,7 +7,9 @@ use Rattle.image.specs.declared.cause.Cause.TheVariants.{NoWord, TooLong, BadSiz
 use Rattle.terms.specs.Names.{holds_zero}
 use Rattle.image.specs.Bytes.{path, checksum}
 use Rattle.image.specs.Reading.{Reading, good, bad, end, word_at, unpadded, read_name, read_path, read_deps, is_deps, size_of, odd_size, read_body, read_front, next_offset, read_at}
-use Rattle.image.specs.Shown.{Leads}
+use Rattle.image.specs.declared.head.Kind.TheVariants.{Path, Deps as Depends}
+use Rattle.image.specs.Heads.{head_of, body_by}
+use Rattle.image.specs.Shown.{is_good, Leads}
 use Rattle.image.proofs.Loops.{word_at-drop}
 use Rattle.image.proofs.Tests.{place_in_lem}
 
@@ -56,6 +58,18 @@ body_even known w rest h = cond-false (ltb (length rest) (size_of w)) (bad TooLo
 pub body_odd : (known : List (List ℕ)) (w : ℕ) (rest : List ℕ) → size_of w ≤ length rest → odd_size w ≡ true → bad BadSize ≡ read_body known w rest
 body_odd known w rest h o = sym (body_even known w rest h ∙ cond-true (odd_size w) (bad BadSize) _ o)
 
+-- by the word's parts
+by_kind : (deps : Bool) (size : ℕ) (known : List (List ℕ)) (rest : List ℕ) →
+    body_by known (record { kind = cond deps Depends Path; size = size }) rest ≡
+    cond (ltb (length rest) size) (bad TooLong)
+    (cond (not (eqb (size % 4) 0) || ltb size (cond deps 12 8)) (bad BadSize)
+    (cond deps (read_deps known (take size rest)) (read_path known (take size rest))))
+by_kind true size known rest = refl
+by_kind false size known rest = refl
+
+pub body_of : (known : List (List ℕ)) (w : ℕ) (rest : List ℕ) → body_by known (head_of w) rest ≡ read_body known w rest
+body_of known w rest = by_kind (is_deps w) (size_of w) known rest
+
 -- The front --------------------------------------------------------------------------------------------------------------
 
 not-empty : (xs : List ℕ) → 0 < length xs → empty xs ≡ false
@@ -67,11 +81,6 @@ front-word known xs h =
     cond-false (empty xs) end _ (not-empty xs (omega arith)) ∙ cond-false (ltb (length xs) 4) (bad NoWord) _ (le-ltb (length xs) 4 h)
 
 -- A good record ----------------------------------------------------------------------------------------------------------
-
-abbrev pub is_good : Reading → Bool
-is_good (good r) = true
-is_good (bad c) = false
-is_good end = false
 
 -- its bytes are there, 8 at least behind its word
 pub body_good : (known : List (List ℕ)) (w : ℕ) (rest : List ℕ) → is_good (read_body known w rest) ≡ true → (size_of w ≤ length rest) × (8 ≤ size_of w)

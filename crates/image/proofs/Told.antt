@@ -8,7 +8,8 @@ use Rattle.image.specs.declared.cause.Cause.TheVariants.{TooLong, BadSize, BadCh
 use Rattle.terms.specs.Names.{holds_zero}
 use Rattle.image.specs.Bytes.{Record, path, deps, checksum}
 use Rattle.image.specs.Reading.{Reading, good, bad, word_at, long_at, words_of, trimmed, unpadded, read_name, read_path, read_deps, is_known, is_deps, size_of, odd_size, read_body, read_front}
-use Rattle.image.proofs.Readings.{is_good, front-word, some_least}
+use Rattle.image.specs.Shown.{is_good}
+use Rattle.image.proofs.Readings.{front-word, some_least}
 
 -- A good path record's name is not empty, holds no zero and is not known; every id of a good deps record is known.
 abbrev pub Told : List (List ℕ) → Record → Type 0

@@ -5,6 +5,7 @@ pub mod Kept
 pub mod Scans
 pub mod View
 pub mod Learning
+pub mod Heads
 pub mod Shown
 pub mod Written
 pub mod Laws

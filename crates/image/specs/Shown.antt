@@ -1,5 +1,6 @@
 -- What the reader's answer says. Assumes nothing.
-use Rattle.std.specs.Prelude.{◌≡◌, ℕ, ◌+◌, ◌/◌, ◌≤◌, List, length}
+use Rattle.std.specs.Prelude.{◌≡◌, ℕ, ◌+◌, ◌/◌, ◌≤◌, Bool, true, false, List, length, Ok, Err, Result}
+use Rattle.image.specs.declared.cause.Cause.{Cause}
 use Rattle.image.specs.declared.records.Read.{Read}
 use Rattle.image.specs.declared.records.Read.TheVariants.{Path, Deps as Depends, Bad, End}
 use Rattle.image.specs.declared.records.Deps.{Deps}
@@ -15,6 +16,16 @@ shown (Path p) = good (path p.value.now)
 shown (Depends d) = good (deps d.value.output d.value.mtime (ids_of d.value))
 shown (Bad c) = bad c
 shown End = end
+
+-- what the parts of the reader answer: a record, or why it is bad
+abbrev pub answered : Result Read Cause → Read
+answered (Ok x) = x
+answered (Err c) = Bad c
+
+abbrev pub is_good : Reading → Bool
+is_good (good r) = true
+is_good (bad c) = false
+is_good end = false
 
 -- the offset that a record is handed out with; a bad one and the end have the one that was asked
 abbrev pub offset_of : ℕ → Read → ℕ

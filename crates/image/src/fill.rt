@@ -38,16 +38,16 @@ impl<'a> Deps<'a> {
 
 impl DepsTable {
     // Learns a deps record that was read; false, and nothing changed, where it has more than 64 inputs.
-    // A bool, as learn_path answers: the reader takes both alike.
+    // A bool, as `learn_path` and `learn_deps` answer: the caller takes them alike.
     fn learn_read(&mut self, read: Deps) -> bool
         requires { every (is_known (view self.old).names) (read.output ∷ ids_of read) ≡ true }
         ensures limit { result ≡ not (is_over (length (view self.old).names) (deps read.entry.output read.entry.mtime (ids_of read.entry))) }
         ensures after { view self.new ≡ (if result then learn (view self.old) (deps read.entry.output read.entry.mtime (ids_of read.entry)) else view self.old) }
     {
-        match read.entry() {
-            Some(entry) => self.learn_deps(read.output as usize, &entry),
-            None => false,
-        }
+        let Some(entry) = read.entry() else {
+            return false;
+        };
+        self.learn_deps(read.output as usize, &entry)
     }
 
     // Reads the records behind the header into a bare table, up to the first bad one or the end, or to the first over a limit.
@@ -56,6 +56,7 @@ impl DepsTable {
         requires long { 16 ≤ length image.now }
         ensures { (result, view self.new) ≡ fill_by 0 0 (scan (length image.now) image.now bare 16) }
     {
+        // By hand, as the table learns between two records, so no iterator that borrows it to read them lives across the loop.
         let mut at = 16;
         let mut records = 0;
         let tail = 'reading: loop {

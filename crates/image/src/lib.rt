@@ -6,6 +6,7 @@ mod entries;
 mod entry;
 mod fill;
 mod filled;
+mod head;
 mod name;
 mod names;
 mod reader;

@@ -1,81 +1,78 @@
 // One record of an image at an offset, and the offset of the next.
-ghost use Rattle.std.specs.Prelude.{◌≡◌, ◌≤◌, length};
-ghost use Rattle.image.specs.Reading.{read_path, read_deps, odd_size, read_body, read_at};
+ghost use Rattle.std.specs.Prelude.{◌≡◌, ◌≤◌, true, length, IfOk};
+ghost use Rattle.image.specs.Reading.{read_path, read_deps, read_at};
+ghost use Rattle.image.specs.Heads.{body_by};
 ghost use Rattle.image.specs.Learning.{view};
-ghost use Rattle.image.specs.Shown.{shown, offset_of, Leads};
+ghost use Rattle.image.specs.Shown.{shown, answered, is_good, offset_of, Leads};
 ghost use Rattle.image.specs.Laws.{ReadsBack, ReadsTorn};
 
 use super::cause::Cause;
+use super::head::{Head, Kind};
 use super::records::{Deps, Read};
 use super::table::DepsTable;
 use super::words::{all_below, unpadded};
 use terms::At;
 
 // A path record, by the bytes behind its word.
-fn read_path<'a>(body: &'a [u8], at: usize, known: &DepsTable) -> Read<'a>
+fn read_path<'a>(body: &'a [u8], at: usize, known: &DepsTable) -> Result<Read<'a>, Cause>
     requires { 8 ≤ length body.now }
-    ensures value { shown result ≡ read_path (view known.now).names body.now }
-    ensures offset { offset_of at result ≡ at }
+    ensures value { shown (answered result) ≡ read_path (view known.now).names body.now }
+    ensures offset { offset_of at (answered result) ≡ at }
+    ensures good { IfOk result (λ x. is_good (shown x) ≡ true) }
 {
     let (padded, sum) = body.split_last_chunk::<4>().unwrap();
     if u32::from_le_bytes(*sum) as usize != 0xffff_ffff - known.path_count() {
-        return Read::Bad(Cause::BadChecksum);
+        return Err(Cause::BadChecksum);
     }
     let name = unpadded(padded);
     if name.contains(&0) || known.id_of(name).is_some() {
-        return Read::Bad(Cause::BadName);
+        return Err(Cause::BadName);
     }
-    Read::Path(At {
+    Ok(Read::Path(At {
         offset: at,
         value: name,
-    })
+    }))
 }
 
 // A deps record, by the bytes behind its word.
-fn read_deps<'a>(body: &'a [u8], at: usize, known: &DepsTable) -> Read<'a>
+fn read_deps<'a>(body: &'a [u8], at: usize, known: &DepsTable) -> Result<Read<'a>, Cause>
     requires { 12 ≤ length body.now }
-    ensures value { shown result ≡ read_deps (view known.now).names body.now }
-    ensures offset { offset_of at result ≡ at }
+    ensures value { shown (answered result) ≡ read_deps (view known.now).names body.now }
+    ensures offset { offset_of at (answered result) ≡ at }
+    ensures good { IfOk result (λ x. is_good (shown x) ≡ true) }
 {
     let (output, rest) = body.split_first_chunk::<4>().unwrap();
     let (mtime, ids) = rest.split_first_chunk::<8>().unwrap();
     let output = u32::from_le_bytes(*output);
     let count = known.path_count();
     if output as usize >= count || !all_below(ids, count) {
-        return Read::Bad(Cause::UnknownId);
+        return Err(Cause::UnknownId);
     }
     let mtime = u64::from_le_bytes(*mtime);
-    Read::Deps(At {
+    Ok(Read::Deps(At {
         offset: at,
         value: Deps { output, mtime, ids },
-    })
+    }))
 }
 
-// Whether the size in a record's word is no multiple of 4, or too small.
-fn odd_size(head: u32) -> bool
-    ensures { result ≡ odd_size head }
+// The record that begins with a head, by the bytes that remain behind it.
+fn read_body<'a>(
+    head: Head,
+    rest: &'a [u8],
+    at: usize,
+    known: &DepsTable,
+) -> Result<Read<'a>, Cause>
+    ensures value { shown (answered result) ≡ body_by (view known.now).names head rest.now }
+    ensures offset { offset_of at (answered result) ≡ at }
+    ensures good { IfOk result (λ x. is_good (shown x) ≡ true) }
 {
-    let size = head % 0x8000_0000;
-    let least = if head >= 0x8000_0000 { 12 } else { 8 };
-    size % 4 != 0 || size < least
-}
-
-// The record that begins with the word `head`, by the bytes that remain behind it.
-fn read_body<'a>(head: u32, rest: &'a [u8], at: usize, known: &DepsTable) -> Read<'a>
-    ensures value { shown result ≡ read_body (view known.now).names head rest.now }
-    ensures offset { offset_of at result ≡ at }
-{
-    let size = (head % 0x8000_0000) as usize;
-    let Some(body) = rest.get(..size) else {
-        return Read::Bad(Cause::TooLong);
-    };
-    if odd_size(head) {
-        return Read::Bad(Cause::BadSize);
+    let body = rest.get(..head.size).ok_or(Cause::TooLong)?;
+    if head.is_odd() {
+        return Err(Cause::BadSize);
     }
-    if head >= 0x8000_0000 {
-        read_deps(body, at, known)
-    } else {
-        read_path(body, at, known)
+    match head.kind {
+        Kind::Path => read_path(body, at, known),
+        Kind::Deps => read_deps(body, at, known),
     }
 }
 
@@ -94,10 +91,9 @@ pub fn read_record<'a>(image: &'a [u8], at: usize, known: &DepsTable) -> (Read<'
     let Some((head, rest)) = image[at..].split_first_chunk::<4>() else {
         return (Read::Bad(Cause::NoWord), at);
     };
-    let head = u32::from_le_bytes(*head);
-    let read = read_body(head, rest, at, known);
-    match read {
-        Read::Path(_) | Read::Deps(_) => (read, at + 4 + (head % 0x8000_0000) as usize),
-        Read::Bad(_) | Read::End => (read, at),
+    let head = Head::of(u32::from_le_bytes(*head));
+    match read_body(head, rest, at, known) {
+        Ok(read) => (read, at + 4 + head.size),
+        Err(cause) => (Read::Bad(cause), at),
     }
 }

@@ -11,7 +11,7 @@ pub struct Deps<'a> {
 }
 
 // What stands at an offset. A name and ids are parts of the image.
-// Four cases of equal rank, as each reader matches on all four at once: an Option of a Result would nest every match.
+// One of four: the reader answers a plain pair of it and the next offset, in no Option or Result, which is the rule of this project.
 #[derive(Clone, Copy)]
 pub enum Read<'a> {
     Path(At<&'a [u8]>),

@@ -59,20 +59,19 @@ impl DepsTable {
     }
 
     // Takes these bytes as the next path; false, and nothing changed, where they are no name or known already, or 256 are known.
-    // A bool, as HashSet::insert answers: no caller asks why not, and an error type would add a match to each.
+    // A bool, as a set's `insert` answers whether it took what it was given: no caller tells the reasons apart, and all but one would
+    // throw an error away.
     pub fn learn_path(&mut self, name: &[u8]) -> bool
         ensures { (result, view self.new) ≡ path_learned (view self.old) name.now }
     {
         if self.path_count() >= 256 || self.id_of(name).is_some() {
             return false;
         }
-        match Name::new(name) {
-            Some(name) => {
-                self.rows.push_reserved(Row { name, entry: None });
-                true
-            }
-            None => false,
-        }
+        let Some(name) = Name::new(name) else {
+            return false;
+        };
+        self.rows.push_reserved(Row { name, entry: None });
+        true
     }
 
     // Takes an entry as the output's; false, and nothing changed, where an id is not known.

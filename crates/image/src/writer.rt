@@ -74,6 +74,7 @@ pub fn write_deps(buf: &mut [u8], output: u32, entry: &DepsEntry) -> Result<usiz
     buf[..4].copy_from_slice(&word.to_le_bytes());
     buf[4..8].copy_from_slice(&output.to_le_bytes());
     buf[8..16].copy_from_slice(&entry.mtime().to_le_bytes());
+    // By index: of a slice written through `chunks_exact_mut` a proof knows the length afterwards, and no element.
     for (k, id) in inputs.iter().enumerate() {
         buf[16 + 4 * k..20 + 4 * k].copy_from_slice(&id.to_le_bytes());
     }

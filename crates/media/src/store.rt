@@ -1,6 +1,7 @@
 // A medium over two areas, whose power fails by some rule: a bench over two lent areas, whose power fails at the step that it is
 // told, or a paged medium over its own arrays, which loses power only between calls, and then keeps whole pages.
-ghost use Rattle.std.specs.Prelude.{◌≡◌, true, length};
+ghost use Rattle.std.specs.Prelude.{◌≡◌, true, length, Ok, Err, if◌then◌else◌};
+ghost use Rattle.medium.specs.declared.Fault.TheVariants.{Off};
 ghost use Rattle.medium.specs.State.{none, with_promoted};
 ghost use Rattle.medium.specs.Calls.{Measured, ReadOut, Appended, Synced, Begun, Drafted, DraftSynced, Promoted, Failed, Returned};
 ghost use Rattle.media.specs.Memory.{filled};
@@ -19,6 +20,7 @@ use std::mem;
 pub struct Store<A, F> {
     live: Shelf<A>,
     draft: Shelf<A>,
+    // A flag, as the power goes off inside calls that borrow the store, so no type can say whether it is on.
     on: bool,
     failing: F,
 }
@@ -71,6 +73,13 @@ impl<A: Area, F: Failing> Store<A, F> {
         self.live.size().min(self.draft.size()).min(65536)
     }
 
+    // Refuses a call while the power is off.
+    fn powered(&self) -> Result<(), Fault>
+        ensures { result ≡ (if self.now.on then Ok tt else Err Off) }
+    {
+        if self.on { Ok(()) } else { Err(Fault::Off) }
+    }
+
     // Counts a step, at which the power may fail.
     fn step(&mut self) -> Result<(), Fault>
         requires on { self.old.on ≡ true }
@@ -119,9 +128,7 @@ impl<A: Area, F: Failing> Medium for Store<A, F> {
         ensures answer { Measured (of_store A.memory self.now) result }
         ensures exact { result ≡ measure (of_store A.memory self.now) }
     {
-        if !self.on {
-            return Err(Fault::Off);
-        }
+        self.powered()?;
         Ok(self.live.count(self.room()))
     }
 
@@ -130,9 +137,7 @@ impl<A: Area, F: Failing> Medium for Store<A, F> {
         ensures count { result ≡ count offset (of_store A.memory self.now) (length buf.old) }
         ensures bytes { buf.new ≡ copied offset (of_store A.memory self.now) buf.old }
     {
-        if !self.on {
-            return Err(Fault::Off);
-        }
+        self.powered()?;
         Ok(self.live.read(self.room(), offset, buf))
     }
 
@@ -140,9 +145,7 @@ impl<A: Area, F: Failing> Medium for Store<A, F> {
         ensures answer { Appended bytes.now (of_store A.memory self.old) result (of_store A.memory self.new) }
         ensures exact { outcome A.memory F.plan result self.new ≡ append bytes.now (of_store A.memory self.old) (F.plan self.old.failing) }
     {
-        if !self.on {
-            return Err(Fault::Off);
-        }
+        self.powered()?;
         let room = self.room();
         if !fits(self.live.count(room), bytes.len(), room) {
             return Err(Fault::Full);
@@ -155,9 +158,7 @@ impl<A: Area, F: Failing> Medium for Store<A, F> {
         ensures answer { Synced (of_store A.memory self.old) result (of_store A.memory self.new) }
         ensures exact { outcome A.memory F.plan result self.new ≡ sync (of_store A.memory self.old) (F.plan self.old.failing) }
     {
-        if !self.on {
-            return Err(Fault::Off);
-        }
+        self.powered()?;
         self.step()?;
         let room = self.room();
         self.live.settle(room);
@@ -168,9 +169,7 @@ impl<A: Area, F: Failing> Medium for Store<A, F> {
         ensures answer { Begun (of_store A.memory self.old) result (of_store A.memory self.new) }
         ensures exact { outcome A.memory F.plan result self.new ≡ begin (record { of = record {} }) (of_store A.memory self.old) (F.plan self.old.failing) }
     {
-        if !self.on {
-            return Err(Fault::Off);
-        }
+        self.powered()?;
         self.step()?;
         self.draft.clear();
         Ok(Token { of: PhantomData })
@@ -180,9 +179,7 @@ impl<A: Area, F: Failing> Medium for Store<A, F> {
         ensures answer { Drafted bytes.now (of_store A.memory self.old) result (of_store A.memory self.new) }
         ensures exact { outcome A.memory F.plan result self.new ≡ draft_append bytes.now (of_store A.memory self.old) (F.plan self.old.failing) }
     {
-        if !self.on {
-            return Err(Fault::Off);
-        }
+        self.powered()?;
         let room = self.room();
         if !fits(self.draft.count(room), bytes.len(), room) {
             return Err(Fault::Full);
@@ -196,9 +193,7 @@ impl<A: Area, F: Failing> Medium for Store<A, F> {
         ensures answer { DraftSynced (of_store A.memory self.old) result (of_store A.memory self.new) }
         ensures exact { outcome A.memory F.plan result self.new ≡ draft_sync (of_store A.memory self.old) (F.plan self.old.failing) }
     {
-        if !self.on {
-            return Err(Fault::Off);
-        }
+        self.powered()?;
         self.step()?;
         let room = self.room();
         self.draft.settle(room);
@@ -210,9 +205,7 @@ impl<A: Area, F: Failing> Medium for Store<A, F> {
         ensures exact { outcome A.memory F.plan result self.new ≡ promote (of_store A.memory self.old) (F.plan self.old.failing) }
     {
         let Token { of: _ } = draft;
-        if !self.on {
-            return Err(Fault::Off);
-        }
+        self.powered()?;
         let plan = self.failing.plan();
         if !plan.is_due() || plan.side == Side::Draft {
             self.turn();

@@ -12,7 +12,7 @@ use Rattle.image.specs.Tables.{Table, bare, learn_all}
 use Rattle.image.specs.Kept.{Kept}
 use Rattle.image.specs.Laws.{AllWritable}
 use Rattle.image.specs.Scans.{Scan, scanned, known, first_over, has_header}
-use Rattle.image.proofs.Readings.{is_good}
+use Rattle.image.specs.Shown.{is_good}
 use Rattle.image.proofs.WholeImage.{drop-on}
 use Rattle.notes.specs.Notes.{Note, entry_of, note_records, note_bytes, note_table, notes_bytes, notes_table}
 use Rattle.notes.specs.Wholeness.{AllFit}

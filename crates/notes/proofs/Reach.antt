@@ -9,7 +9,8 @@ use Rattle.image.specs.Reading.{Reading, good, bad, end, word_at, size_of, read_
 use Rattle.image.specs.Tables.{Table, learn}
 use Rattle.image.specs.Scans.{Scan, found, stopped, scan}
 use Rattle.image.proofs.Loops.{word_at-drop}
-use Rattle.image.proofs.Readings.{is_good, front-word, front-good}
+use Rattle.image.specs.Shown.{is_good}
+use Rattle.image.proofs.Readings.{front-word, front-good}
 use Rattle.image.proofs.Fills.{scan_good, scan-bad, scan-end}
 
 -- What is read of a first part that holds the record ---------------------------------------------------------------------

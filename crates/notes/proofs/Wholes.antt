@@ -12,7 +12,7 @@ use Rattle.image.specs.Reading.{Reading, end, read_front}
 use Rattle.image.specs.Tables.{Table, bare}
 use Rattle.image.specs.Kept.{Kept}
 use Rattle.image.specs.Scans.{Scan, stopped, scan, image_of, has_header, scanned, known, first_over, over_limit, fill_from, fill_by}
-use Rattle.image.proofs.Readings.{is_good}
+use Rattle.image.specs.Shown.{is_good}
 use Rattle.notes.specs.Notes.{note_records, note_bytes, note_table, notes_bytes, notes_table}
 use Rattle.notes.specs.Wholeness.{Whole, Tells, AllFit}
 use Rattle.notes.specs.Laws.{Accepted, NoteReadsBack, NotesReadBack, MendingKeeps, NotingKeeps}

@@ -37,8 +37,8 @@ invariant_of-self c =
           ap (λ rs. every (fits_entry (vec_len t.rows + 1)) (map entry_in rs)) c.push_reserved.ensures.items ∙ named-fitting rows n (vec_len t.rows) t.fitting;
     }
 
-pub returns-in-Some : goal.returns-in-Some
-returns-in-Some c =
+pub returns : goal.returns
+returns c =
     let t = view c.args.self.now in
     let rows = vec_items c.args.self.now.rows in
     let name = c.args.name.now in

@@ -92,7 +92,8 @@ impl<M: Medium> Log<M> {
         Ok(find(&self.table, output))
     }
 
-    // The name of input k of the entry with an index, where there is such an input. Asked one by one, since a list of them would need memory in the log.
+    // The name of input k of the entry with an index, where there is such an input. Asked one by one: a list of them would
+    // need memory in the log, and an iterator over them would keep it borrowed, where a found entry is a plain value.
     pub fn input(&self, index: usize, k: usize) -> Option<&[u8]>
         ensures { option_map (λ x. x.now) result ≡ input_name (state_of M.Medium.state self.now).table index k }
     {

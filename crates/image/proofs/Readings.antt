@@ -119,17 +119,7 @@ next-good image at (good r) g = ap (λ (w : ℕ). at + 4 + size_of w) (word_at-d
 next-good image at (bad c) g = absurd (false≢true g)
 next-good image at end g = absurd (false≢true g)
 
-pub next-none : (image : List ℕ) (at : ℕ) (x : Reading) → is_good x ≡ false → next_offset image at x ≡ at
-next-none image at (good r) g = absurd (true≢false g)
-next-none image at (bad c) g = refl
-next-none image at end g = refl
-
 pub leads_good : (x : Reading) (at n len : ℕ) → is_good x ≡ true → at + 12 ≤ n → n ≤ len → Leads x at n len
 leads_good (good r) at n len g a b = (a, b)
 leads_good (bad c) at n len g a b = absurd (false≢true g)
 leads_good end at n len g a b = absurd (false≢true g)
-
-pub leads_none : (x : Reading) (at len : ℕ) → is_good x ≡ false → Leads x at at len
-leads_none (good r) at len g = absurd (true≢false g)
-leads_none (bad c) at len g = refl
-leads_none end at len g = refl

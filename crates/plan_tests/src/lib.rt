@@ -23,7 +23,7 @@ mod tests {
         words: usize,
     }
 
-    const fn tally(
+    fn tally(
         rules: usize,
         keeping: usize,
         statements: usize,
@@ -72,18 +72,60 @@ mod tests {
 
     // A manifest, and what it says.
     const MANIFESTS: [(&[u8], Result<Counts, Refusal>); 24] = [
-        (b"", tally(0, 0, 0, 0)),
-        (b"\n   \n# rule\ndefault\x01\n", tally(0, 0, 0, 0)),
+        (
+            b"",
+            Ok(Counts {
+                rules: 0,
+                keeping: 0,
+                statements: 0,
+                words: 0,
+            }),
+        ),
+        (
+            b"\n   \n# rule\ndefault\x01\n",
+            Ok(Counts {
+                rules: 0,
+                keeping: 0,
+                statements: 0,
+                words: 0,
+            }),
+        ),
         (
             b"rule cc\n  deps = gcc\nbuild a.o: cc a.c\nbuild b.o: cc a.o || maps\n",
-            tally(1, 1, 2, 5),
+            Ok(Counts {
+                rules: 1,
+                keeping: 1,
+                statements: 2,
+                words: 5,
+            }),
         ),
         (
             b"rule cc\n command = $cc -c\n deps = gcc \n depfile=\nbuild a: cc",
-            tally(1, 0, 1, 1),
+            Ok(Counts {
+                rules: 1,
+                keeping: 0,
+                statements: 1,
+                words: 1,
+            }),
         ),
-        (b"rule $:$ $$\nbuild x:$:$ $$ a|b||c", tally(1, 0, 1, 4)),
-        (b"rule a\nbuild b:a|c\n \x01 what\n", tally(1, 0, 1, 2)),
+        (
+            b"rule $:$ $$\nbuild x:$:$ $$ a|b||c",
+            Ok(Counts {
+                rules: 1,
+                keeping: 0,
+                statements: 1,
+                words: 4,
+            }),
+        ),
+        (
+            b"rule a\nbuild b:a|c\n \x01 what\n",
+            Ok(Counts {
+                rules: 1,
+                keeping: 0,
+                statements: 1,
+                words: 2,
+            }),
+        ),
         (b"rule a\nrule", Err(Refusal::ManifestLine(2))),
         (b"rule a b", Err(Refusal::ManifestLine(1))),
         (b"rule a\nbuild : a", Err(Refusal::ManifestLine(2))),

@@ -45,7 +45,8 @@ fn place_among(names: &[&[u8]], name: &[u8]) -> Option<usize>
     names.iter().position(|n| *n == name)
 }
 
-// The id of a name, once the new ones are known behind those of the table.
+// The id of a name, once the new ones are known behind those of the table. The names of a note are always among them; of any other the
+// definition of an id says 0. A `match`: with `map_or` the proof did not close.
 fn id_in(table: &DepsTable, names: &Few<&[u8], 65>, name: &[u8]) -> usize
     ensures value { result ≡ id_in ((view table.now).names ++ texts (items names.now)) name.now }
     ensures small { result < 512 }

@@ -52,6 +52,7 @@ impl<M: Medium> Log<M> {
         if !self.open {
             return Err(Refusal::Closed);
         }
+        // A `match`, here and in `note` and `recompact`: with `map_err` a closure holds the log, and what it leaves of it has no name in a proof.
         match self.medium.sync() {
             Ok(()) => Ok(()),
             Err(fault) => Err(self.refused(fault)),

@@ -10,6 +10,8 @@ use super::sink::Sink;
 use image::{DepsEntry, Name, write_deps, write_path};
 use medium::{Fault, Medium};
 
+// The power and the room are asked at each call, as in `Sink`.
+
 // Puts the path record that gives a name this id.
 fn put_path<M: Medium, S: Sink<M>>(
     to: &S,

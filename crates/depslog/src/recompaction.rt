@@ -55,7 +55,7 @@ fn count_entries(from: &DepsTable, into: &mut DepsTable) -> usize
 }
 
 // Drafts the notes of all entries, by the outputs' ids, and learns what they tell. The loop is not shared with `count_entries`, which cannot fail and asks for no room:
-// a closure for what is done with a note would carry all of this contract.
+// a closure for what is done with a note would carry all of this contract. The power and the room are asked, as in `Sink`.
 fn draft_entries<M: Medium>(
     medium: &mut M,
     draft: &Draft<M>,

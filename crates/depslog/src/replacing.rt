@@ -49,7 +49,7 @@ impl<M: Medium> Contents<M> for Bytes<'_> {
     }
 }
 
-// Puts the contents into an empty draft, and syncs it.
+// Puts the contents into an empty draft, and syncs it. The power and the room are asked at each call, as in `Sink`.
 fn fill_draft<M: Medium, C: Contents<M>>(
     medium: &mut M,
     token: &M::Draft,

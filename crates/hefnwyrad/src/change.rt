@@ -1,5 +1,5 @@
 // Changing a log that lies in a file.
-use super::failure::{Failure, Refused};
+use super::failure::{Call, Failure, Refused};
 use super::files::{LONGEST, LogFile};
 use super::opening::Task;
 use depslog::Log;
@@ -18,10 +18,11 @@ pub(super) struct Sizes {
     pub(super) after: usize,
 }
 
-// The live bytes of a medium whose power is on.
-fn live_bytes<M: Medium>(rt: &HostRuntime, medium: &M) -> io::Result<Vec<u8>> {
-    let mut bytes = vec![in rt.alloc(); 0u8; LONGEST]?;
-    let count = medium.read(0, &mut bytes).unwrap_or(0);
+// The live bytes of a medium, in an area of so many.
+fn live_bytes<M: Medium>(medium: &M, mut bytes: Vec<u8>) -> Result<Vec<u8>, Refused> {
+    let count = medium
+        .read(0, &mut bytes)
+        .map_err(|fault| Call::Read.refused(fault.into()))?;
     bytes.truncate(count);
     Ok(bytes)
 }
@@ -46,7 +47,8 @@ impl<'a, C: Change> Task<'a> for Changing<'_, C> {
             .make(&mut log)
             .map_err(|refused| file.refused(refused))?;
         let medium = log.into_medium();
-        Ok(live_bytes(file.rt, &medium)?)
+        let bytes = vec![in file.rt.alloc(); 0u8; LONGEST]?;
+        live_bytes(&medium, bytes).map_err(|refused| file.refused(refused))
     }
 }
 

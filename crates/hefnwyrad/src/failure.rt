@@ -10,7 +10,7 @@ pub(super) const USAGE: &str =
        hefnwyrad find LOG OUTPUT                   print the mtime and the inputs of an output's entry
        hefnwyrad note LOG OUTPUT MTIME INPUT...    note that an output was made at a time from inputs";
 
-// A call of a log.
+// A call of a log, or of its medium once the log is given up.
 #[derive(Clone, Copy, Debug, PartialEq, Eq)]
 pub(super) enum Call {
     Open,
@@ -18,6 +18,7 @@ pub(super) enum Call {
     Note,
     Sync,
     Recompact,
+    Read,
 }
 
 impl Call {
@@ -37,7 +38,24 @@ impl fmt::Display for Call {
             Call::Note => "note",
             Call::Sync => "sync",
             Call::Recompact => "recompact",
+            Call::Read => "read",
         })
+    }
+}
+
+// A refusal as it is printed.
+#[derive(Clone, Copy)]
+struct Numbered(Refusal);
+
+impl fmt::Display for Numbered {
+    fn fmt<W: fmt::Write>(&self, f: &mut fmt::Formatter<W>) -> fmt::Result {
+        let Numbered(refusal) = self;
+        write!(
+            f,
+            "refused {} at {} ({refusal})",
+            refusal.number(),
+            refusal.place()
+        )
     }
 }
 
@@ -53,12 +71,7 @@ impl Error for Refused {}
 impl fmt::Display for Refused {
     fn fmt<W: fmt::Write>(&self, f: &mut fmt::Formatter<W>) -> fmt::Result {
         let Refused { call, refusal } = self;
-        write!(
-            f,
-            "{call} refused {} at {} ({refusal})",
-            refusal.number(),
-            refusal.place()
-        )
+        write!(f, "{call} {}", Numbered(*refusal))
     }
 }
 
@@ -114,12 +127,7 @@ impl fmt::Display for Failure<'_> {
             ),
             Failure::Unreadable(path, error) => write!(f, "{path}: cannot be read: {error}"),
             Failure::Unwritable(path, error) => write!(f, "{path}: cannot be replaced: {error}"),
-            Failure::NoLog(path, refusal) => write!(
-                f,
-                "{path}: refused {} at {} ({refusal})",
-                refusal.number(),
-                refusal.place()
-            ),
+            Failure::NoLog(path, refusal) => write!(f, "{path}: {}", Numbered(*refusal)),
             Failure::Refused(path, refused) => write!(f, "{path}: {refused}"),
             Failure::Io(error) => write!(f, "{error}"),
         }

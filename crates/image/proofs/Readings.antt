@@ -1,7 +1,7 @@
 -- The cases of a reading, by what the tests of the reader found. Assumes nothing.
 use Rattle.std.proofs.Common.{◌≡◌, ℕ, ◌+◌, ◌-◌, ◌%◌, ◌<◌, ◌≤◌, Bool, true, false, cond, not, ◌||◌, eqb, ltb, List, [], ◌∷◌, length, take, drop, is_some, sym, refl, ap, ◌∙◌, inl, inr, arith}
 use Rattle.std.specs.Str.{bytes_eq}
-use Rattle.std.proofs.lemmas.Bool.{cond-true, cond-false, eq-eqb, eqb-true, lt-ltb, le-ltb, ltb-false, le-leb, lt-leb, or_parts, not-false, cases_lt, cases_Bool, false≢true, true≢false}
+use Rattle.std.proofs.lemmas.Bool.{cond-true, cond-false, eq-eqb, eqb-true, lt-ltb, le-ltb, ltb-false, le-leb, lt-leb, or_parts, not-false, cases_lt, cases_Bool, false≢true}
 use Rattle.terms.specs.Lists.{empty, is_in, place_in}
 use Rattle.image.specs.declared.cause.Cause.TheVariants.{NoWord, TooLong, BadSize, BadChecksum, BadName}
 use Rattle.terms.specs.Names.{holds_zero}

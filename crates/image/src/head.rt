@@ -15,10 +15,10 @@ pub(super) struct Head {
     pub(super) size: usize,
 }
 
-impl Head {
-    pub(super) fn of(word: u32) -> Head
-        ensures { result ≡ head_of word }
-    {
+impl From<u32> for Head {
+    ghost from_gives = { λ word head. head ≡ head_of word };
+
+    fn from(word: u32) -> Head {
         let kind = if word >= 0x8000_0000 {
             Kind::Deps
         } else {
@@ -29,7 +29,9 @@ impl Head {
             size: (word % 0x8000_0000) as usize,
         }
     }
+}
 
+impl Head {
     // Whether the size is no multiple of 4, or too small.
     pub(super) fn is_odd(self) -> bool
         ensures { result ≡ is_odd self }

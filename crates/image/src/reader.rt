@@ -91,7 +91,7 @@ pub fn read_record<'a>(image: &'a [u8], at: usize, known: &DepsTable) -> (Read<'
     let Some((head, rest)) = image[at..].split_first_chunk::<4>() else {
         return (Read::Bad(Cause::NoWord), at);
     };
-    let head = Head::of(u32::from_le_bytes(*head));
+    let head = Head::from(u32::from_le_bytes(*head));
     match read_body(head, rest, at, known) {
         Ok(read) => (read, at + 4 + head.size),
         Err(cause) => (Read::Bad(cause), at),

@@ -11,7 +11,8 @@ pub struct Deps<'a> {
 }
 
 // What stands at an offset. A name and ids are parts of the image.
-// One of four: the reader answers a plain pair of it and the next offset, in no Option or Result, which is the rule of this project.
+// One of four: the reader answers a plain pair of it and the next offset, in no Option or Result,
+// which docs/DECISIONS.md gives as a rule of this project.
 #[derive(Clone, Copy)]
 pub enum Read<'a> {
     Path(At<&'a [u8]>),

@@ -8,7 +8,7 @@ use super::limits::LONGEST;
 use super::words_left::WordsLeft;
 use words::{Token, next_token};
 
-// The words from `at` on, and the mark behind them.
+// The words from `at` on, and the mark behind them: of bytes and an offset, since it answers offsets.
 pub(super) fn group_at(bytes: &[u8], at: usize) -> Group
     ensures { Gathered bytes.now at result }
 {

@@ -25,8 +25,8 @@ pub fn is_among(text: &[u8], words: &[Place], name: Path) -> bool
     first(words, |word| Path::Spelled(word.of(text)), &name).is_some()
 }
 
-// The number of the statement that makes a path. Text, statements and words stand apart, and not in a Manifest: the call is public, and
-// its signature would change for no gain of its callers.
+// The number of the statement that makes a path. Text, statements and words stand apart, and not in a Manifest: a reader asks it of the
+// statements before one that is not added yet, so a Manifest would be made for that question alone.
 pub fn maker(text: &[u8], statements: &[Statement], words: &[Place], name: Path) -> Option<usize>
     ensures { result ≡ maker_of (map (making text.now words.now) statements.now) (path_name name.entry) }
 {

@@ -81,10 +81,7 @@ impl Failing for Plan {
     }
 
     fn count(&mut self) {
-        self.after = match self.after {
-            None | Some(0) => None,
-            Some(n) => Some(n - 1),
-        };
+        self.after = self.after.and_then(|n| n.checked_sub(1));
     }
 
     fn keep(&self, durable: usize, len: usize) -> usize {

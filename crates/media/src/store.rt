@@ -189,6 +189,7 @@ impl<A: Area, F: Failing> Medium for Store<A, F> {
         Ok(())
     }
 
+    // As `sync`, of the other shelf: two calls of the trait, each with a clause of its own.
     fn draft_sync(&mut self, draft: &Token<F>) -> Result<(), Fault>
         ensures answer { DraftSynced (of_store A.memory self.old) result (of_store A.memory self.new) }
         ensures exact { outcome A.memory F.plan result self.new ≡ draft_sync (of_store A.memory self.old) (F.plan self.old.failing) }

@@ -4,6 +4,15 @@ use medium::{Fault, Medium, WriteBuffer};
 use std::process::Abort;
 use std::test::Fail;
 
+// A failure at a step, counted from 1 on.
+fn plan(step: Option<u64>, keep: usize, side: Side) -> Plan {
+    Plan {
+        after: step.map(|step| step.saturating_sub(1)),
+        keep,
+        side,
+    }
+}
+
 // The fixed list of calls, on a medium whose live bytes are "z": nine steps.
 fn calls<M: Medium>(m: &mut M) -> Result<(), Fault> {
     m.append(b"ab")?;
@@ -80,12 +89,7 @@ where
     let text: &[u8] = if row.promoted { b"xyzw" } else { b"zabcd" };
     for (keep, left) in [0, 1, 9].into_iter().zip(row.left) {
         let mut out = [0; 8];
-        let plan = Plan {
-            after: row.step.map(|step| step.saturating_sub(1)),
-            keep,
-            side: row.side,
-        };
-        let n = told(plan, &mut out)?;
+        let n = told(plan(row.step, keep, row.side), &mut out)?;
         assert_eq!(rt; n, left);
         assert!(rt; n <= text.len() && n <= 8);
         assert_eq!(rt; &out[0..n], &text[0..n]);
@@ -173,12 +177,7 @@ fn thrice<M: Medium>(m: &mut M) -> Result<usize, Fault> {
 fn thrice_on_pile(step: Option<u64>, keep: usize) -> Result<usize, Fault> {
     let mut live = [0; 1000];
     let mut draft = [0; 1000];
-    let plan = Plan {
-        after: step.map(|step| step.saturating_sub(1)),
-        keep,
-        side: Old,
-    };
-    let bench = Bench::new(&mut live, &mut draft, 0, plan);
+    let bench = Bench::new(&mut live, &mut draft, 0, plan(step, keep, Old));
     let mut two = WriteBuffer::new(WriteBuffer::new(bench));
     thrice(&mut two)
 }

@@ -38,7 +38,7 @@ impl Class {
     }
 }
 
-// Where the bytes of a class that stand from `at` on end.
+// Where the bytes of a class that stand from `at` on end. Of the bytes and an offset, and no slice from there on, since it answers an offset in them.
 pub fn span_end(bytes: &[u8], at: usize, class: Class) -> usize
     ensures end { result ≡ at + length (front (is_of class) (drop at bytes.now)) }
     ensures within { at ≤ length bytes.now → result ≤ length bytes.now }

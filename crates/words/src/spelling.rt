@@ -47,7 +47,7 @@ fn step(rest: &[u8]) -> Result<Option<&[u8]>, WrongSign>
     }
 }
 
-// The word that stands from `start` on; none where a `$` in it stands before another byte than a space, a colon or a `$`.
+// The word that stands from `start` on, of bytes and an offset, as `span_end`; none where a `$` in it stands before another byte than a space, a colon or a `$`.
 pub fn word_at(bytes: &[u8], start: usize) -> Option<Word>
     ensures word { result ≡ option_map (word_of start) (word (drop start bytes.now)) }
     ensures back { EscapesBack }

@@ -21,7 +21,7 @@ fn mark(rest: &[u8]) -> Option<(Token, usize)>
     }
 }
 
-// The next token from `at` on, and the offset behind it.
+// The next token from `at` on, and the offset behind it: of bytes and an offset, as `span_end`.
 pub fn next_token(bytes: &[u8], at: usize) -> (Token, usize)
     ensures token { shown bytes.now result.0 ≡ (front_token (drop at bytes.now)).0 }
     ensures next { result.1 ≡ at + (front_token (drop at bytes.now)).1 }

@@ -22,12 +22,12 @@ returns-in-Ok c =
     let p = c.in-Some.ensures.cases in
     let f : front ≡ drop at image = take_rest image at in
     let h : w ≡ word_at front 0 = c.from_le_bytes.ensures ∙ ap (from_le_bytes w32) p.0 ∙ word-chunk front in
-    let e : x ≡ read_front known (drop at image) = read_front_lem known image at w front c.in-Some.rest.now x f h p.1 (omega (arith, p.2)) (c.in-Ok.ensures.value ∙ ap (λ (k : Head). body_by known k c.in-Some.rest.now) c.of-head.ensures ∙ body_of known w c.in-Some.rest.now) in
+    let e : x ≡ read_front known (drop at image) = read_front_lem known image at w front c.in-Some.rest.now x f h p.1 (omega (arith, p.2)) (c.in-Ok.ensures.value ∙ ap (λ (k : Head). body_by known k c.in-Some.rest.now) c.from-head.ensures ∙ body_of known w c.in-Some.rest.now) in
     let g : is_good x ≡ true = c.in-Ok.ensures.good in
     let l : w ≡ word_at (drop at image) 0 = h ∙ ap (λ xs. word_at xs 0) f in
     let b = front-good known (drop at image) (ap is_good (sym e) ∙ g) in
-    let z : c.of-head.result.size ≡ size_of w = ap (λ (k : Head). k.size) c.of-head.ensures in
-    let n : ℕ = at + 4 + c.of-head.result.size in
+    let z : c.from-head.result.size ≡ size_of w = ap (λ (k : Head). k.size) c.from-head.ensures in
+    let n : ℕ = at + 4 + c.from-head.result.size in
     let v = answers known image at x n e (ap (λ (k : ℕ). at + 4 + k) (z ∙ ap size_of l) ∙ sym (next-good image at x g)) in
     record {
       value = v;
@@ -48,7 +48,7 @@ returns-in-Err c =
     let p = c.in-Some.ensures.cases in
     let h : w ≡ word_at front 0 = c.from_le_bytes.ensures ∙ ap (from_le_bytes w32) p.0 ∙ word-chunk front in
     let e : x ≡ read_front known (drop at image) =
-    read_front_lem known image at w front c.in-Some.rest.now x (take_rest image at) h p.1 (omega (arith, p.2)) (c.in-Err.ensures.value ∙ ap (λ (k : Head). body_by known k c.in-Some.rest.now) c.of-head.ensures ∙ body_of known w c.in-Some.rest.now) in
+    read_front_lem known image at w front c.in-Some.rest.now x (take_rest image at) h p.1 (omega (arith, p.2)) (c.in-Err.ensures.value ∙ ap (λ (k : Head). body_by known k c.in-Some.rest.now) c.from-head.ensures ∙ body_of known w c.in-Some.rest.now) in
     let v = answers known image at x at e refl in
     record {
       value = v;

@@ -1,4 +1,5 @@
 // Working out what a note adds to a table, how many bytes that takes, and learning it.
+// The table and the new names are handed on apart: `take_in` changes the names and the others only read them.
 ghost use Rattle.std.specs.Prelude.{◌≡◌, ◌+◌, ◌<◌, ◌≤◌, ◌∷◌, ◌++◌, map, length, position};
 ghost use Rattle.std.specs.Str.{bytes_eq};
 ghost use Rattle.terms.specs.Few.{items};

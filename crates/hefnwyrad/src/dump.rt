@@ -1,4 +1,5 @@
-// Printing what a deps log holds.
+// Printing what a deps log holds. The runtime and the table are handed on one by one: some functions change the table and others only read it, so
+// that a value of both would be of two types.
 use super::failure::Failure;
 use super::files::LogFile;
 use super::opening::print_tail;

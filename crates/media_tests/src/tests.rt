@@ -47,7 +47,7 @@ fn on_bench(plan: Plan, out: &mut [u8]) -> Result<usize, Fault> {
     survivors(&mut bench, out)
 }
 
-// On two write buffers over a bench.
+// On two write buffers over a bench. It makes its own bench, as `on_bench` does: a bench lies over arrays of the function that makes it.
 fn on_pile(plan: Plan, out: &mut [u8]) -> Result<usize, Fault> {
     let mut live = [b'z'; 16];
     let mut draft = [0; 16];

@@ -47,7 +47,7 @@ fn place_among(names: &[&[u8]], name: &[u8]) -> Option<usize>
 }
 
 // The id of a name, once the new ones are known behind those of the table. The names of a note are always among them; of any other the
-// definition of an id says 0. A `match`: with `map_or` the proof did not close.
+// definition of an id says 0.
 fn id_in(table: &DepsTable, names: &Few<&[u8], 65>, name: &[u8]) -> usize
     ensures value { result ≡ id_in ((view table.now).names ++ texts (items names.now)) name.now }
     ensures small { result < 512 }

@@ -1,5 +1,4 @@
-// Making a log, and the calls that write nothing of their own. Each call asks for itself whether the log is open, since of what may
-// refuse it that is the first: the order is read in the call's own body, and no helper would be shorter than the question.
+// Making a log, and the calls that write nothing of their own.
 ghost use Rattle.std.specs.Prelude.{◌≡◌, not, ◌&&◌, MatchResult};
 ghost use Rattle.medium.specs.Refusals.{refusal_of, is_off};
 ghost use Rattle.std.specs.Option.{option_map};
@@ -52,7 +51,6 @@ impl<M: Medium> Log<M> {
         if !self.open {
             return Err(Refusal::Closed);
         }
-        // A `match`, here and in `note` and `recompact`: with `map_err` a closure holds the log, and what it leaves of it has no name in a proof.
         match self.medium.sync() {
             Ok(()) => Ok(()),
             Err(fault) => Err(self.refused(fault)),

@@ -22,7 +22,6 @@ fn append<M: Medium>(medium: &mut M, added: &Added) -> Result<(), Fault>
     added.put(&Live, medium)
 }
 
-// It asks for itself whether the log is open, and matches on what the medium says, as the calls beside it.
 impl<M: Medium> Log<M> {
     // Notes that an output was made at a time from inputs.
     pub fn note(&mut self, note: &Given) -> Result<(), Refusal>

@@ -9,7 +9,6 @@ use medium::Medium;
 use std::mem::swap;
 use terms::Refusal;
 
-// It asks for itself whether the log is open, and matches on what the medium says, as the calls beside it.
 impl<M: Medium> Log<M> {
     // Replaces the image by one that has each entry once and nothing else.
     pub fn recompact(&mut self) -> Result<(), Refusal>

@@ -26,7 +26,6 @@ impl fmt::Display for TooShort {
 
 impl Error for TooShort {}
 
-// Each writer asks for its own room before it writes: a function that asked for all three would be no shorter than the question.
 pub fn write_header(buf: &mut [u8]) -> Result<usize, TooShort>
     ensures { (result, buf.new) ≡ written header buf.old }
 {

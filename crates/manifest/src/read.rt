@@ -11,8 +11,7 @@ use lists::GrowList;
 use terms::{Place, Refusal};
 
 // What a manifest says, or the first refusal: memory too short for 64 rules, 128 statements or 5,120 words, then the first line that breaks a rule.
-// Behind the end of what is handed back, and after a refusal, the memory is free. Each memory is asked for by its own line, in their order, as
-// it is in a listing: a function that asked would be no shorter than the question.
+// Behind the end of what is handed back, and after a refusal, the memory is free.
 pub fn read_manifest<'t, 'r, 's, 'w>(
     text: &'t [u8],
     rules: &'r mut [Rule],

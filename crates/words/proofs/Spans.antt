@@ -1,9 +1,13 @@
 -- Runs at the front of a list. Assumes nothing.
 use Rattle.std.proofs.Common.{◌≡◌, ℕ, suc, ◌+◌, ◌≤◌, Bool, true, false, cond, ◌&&◌, List, [], ◌∷◌, length, take, drop, sym, refl, ap, ◌∙◌, arith}
-use Rattle.std.proofs.lemmas.List.{drop-drop, length-drop}
+use Rattle.std.proofs.lemmas.List.{drop-drop, length-drop, take_all}
 use Rattle.std.specs.List.{list_all, prefix_len}
 use Rattle.terms.specs.Lists.{every}
 use Rattle.words.specs.Runs.{front, beyond}
+
+-- a part of a list that may be as long as the whole is all that stands from an offset on
+pub rest_from : {A : Type 0} (xs : List A) (at : ℕ) → take (length xs) (drop at xs) ≡ drop at xs
+rest_from xs at = take_all (length xs) (drop at xs) (omega (arith, length-drop at xs))
 
 module _ {A : Type 0} (p : A → Bool) where
   pub front-short : (xs : List A) → length (front p xs) ≤ length xs

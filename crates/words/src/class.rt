@@ -43,14 +43,15 @@ pub fn span_end(bytes: &[u8], at: usize, class: Class) -> usize
     ensures end { result ≡ at + length (front (is_of class) (drop at bytes.now)) }
     ensures within { at ≤ length bytes.now → result ≤ length bytes.now }
 {
-    at + bytes.iter().skip(at).take_while(|b| class.has(**b)).count()
+    let rest = part(bytes, at, bytes.len());
+    at + rest.iter().take_while(|b| class.has(**b)).count()
 }
 
 // Whether all bytes from `at` on are of a class. It takes the bytes and an offset as `span_end` does, so that a line is read with the same two.
 pub fn all_of(bytes: &[u8], at: usize, class: Class) -> bool
     ensures { result ≡ every (is_of class) (drop at bytes.now) }
 {
-    bytes.iter().skip(at).all(|b| class.has(*b))
+    part(bytes, at, bytes.len()).iter().all(|b| class.has(*b))
 }
 
 // Whether the bytes from `at` on begin with these; of bytes and an offset, as `span_end`.

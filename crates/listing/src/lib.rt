@@ -4,11 +4,13 @@
 mod decimal;
 mod entry;
 mod fault;
+mod keys;
 mod listing;
 mod read;
 mod row;
 
 pub use fault::ListingFault;
+pub use keys::Lines;
 pub use listing::Listing;
 pub use read::read_listing;
 pub use row::Row;

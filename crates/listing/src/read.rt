@@ -8,6 +8,7 @@ ghost use Rattle.terms.specs.Faulty.{told};
 
 use super::entry::row_at;
 use super::fault::ListingFault;
+use super::keys::Lines;
 use super::listing::Listing;
 use super::row::Row;
 use lists::{GrowList, first};
@@ -25,7 +26,7 @@ fn add_row(rows: &mut GrowList<Row>, line: Line) -> Result<(), ListingFault>
 {
     let row = row_at(line).ok_or(ListingFault::BadLine)?;
     let name = row.name.of(line.text);
-    if first(rows.as_slice(), |r| r.name.of(line.text), &name).is_some() {
+    if first(&Lines { bytes: line.text }, rows.as_slice(), name).is_some() {
         return Err(ListingFault::BadLine);
     }
     if rows.len() >= ROWS {

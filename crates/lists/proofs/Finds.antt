@@ -1,13 +1,11 @@
 -- The place of the first member for which a test holds. Assumes nothing.
-use Rattle.std.proofs.Common.{◌≡◌, ℕ, ◌+◌, Bool, true, false, cond, ◌||◌, ltb, List, [], ◌∷◌, map, length, get_or, is_some, Some, None, Option, sym, refl, ap, ◌∙◌, subst, arith}
+use Rattle.std.proofs.Common.{◌≡◌, ℕ, ◌+◌, Bool, true, false, cond, ◌||◌, ltb, List, [], ◌∷◌, map, length, get_or, is_some, Some, None, Option, refl, ap, ◌∙◌, subst, arith}
 use Rattle.std.proofs.lemmas.Bool.Decides.{nat_tests}
-use Rattle.std.specs.Borrow.{Bor}
-use Rattle.std.specs.Fn.{Shared, FnReturnsAt}
 use Rattle.std.specs.List.{position, position_or_len}
 use Rattle.std.proofs.lemmas.Bool.{both_ways, ltb-true, ltb-false}
 use Rattle.std.proofs.lemmas.List.Sums.{fails_before_first, passes_at_first}
 use Rattle.terms.specs.Lists.{some, place_from}
-use Rattle.lists.specs.First.{First, TestsKey}
+use Rattle.lists.specs.First.{First}
 
 -- the place that `position` finds, the places counting from i on
 place-counted : {X : Type 0} (i : ℕ) (p : X → Bool) (xs : List X) → place_from i p xs ≡ cond (ltb (position_or_len p xs) (length xs)) (Some (i + position_or_len p xs)) None
@@ -16,10 +14,6 @@ place-counted i p (x ∷ xs) = let ih = place-counted (i + 1) p xs in grind (ari
 
 pub place-is : {X : Type 0} (p : X → Bool) (xs : List X) → place_from 0 p xs ≡ position p xs
 place-is p xs = place-counted 0 p xs ∙ (let e : 0 + position_or_len p xs ≡ position_or_len p xs = omega arith in ap (λ n. cond (ltb (position_or_len p xs) (length xs)) (Some n) None) e)
-
--- what a call of the test that compares the key says of the test that it stands for
-pub told : {F T K : Type 0} {calls : Shared F (Bor T × Unit {0}) K} {key : F} (eq : K → K → Bool) (asked : K) {has : T → Bool} → TestsKey calls key eq asked has → (x : T) (b : Bool) → (k : K) × FnReturnsAt calls key x k × (b ≡ eq asked k) → b ≡ has x
-told eq asked t x b w = w.2 ∙ sym (t x w.0 w.1)
 
 -- what an answer under a test says of the test
 given : {X : Type 0} (b : Bool) (x y : X) → Some y ≡ cond b (Some x) None → (b ≡ true) × (x ≡ y)

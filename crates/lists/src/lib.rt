@@ -4,7 +4,9 @@
 mod grow;
 mod grown;
 mod lookup;
+mod names;
 
 pub use grow::GrowList;
-pub use lookup::{find_name, first};
+pub use lookup::{Keys, first};
+pub use names::{Places, find_name};
 pub use terms::part;

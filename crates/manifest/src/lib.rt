@@ -7,6 +7,7 @@ mod built;
 mod fault;
 mod group;
 mod groups;
+mod keys;
 mod kind;
 mod limits;
 mod line;
@@ -21,6 +22,7 @@ mod store;
 mod words_left;
 
 pub use fault::Fault;
+pub use keys::Text;
 pub use kind::Kind;
 pub use line::kind_at;
 pub use makers::{is_among, maker, rule_number};

@@ -6,6 +6,7 @@ ghost use Rattle.words.specs.Spelling.{name_at};
 ghost use Rattle.manifest.specs.Books.{rule_number, is_made, maker_of, twice};
 ghost use Rattle.manifest.specs.Views.{declaration, making};
 
+use super::keys::Text;
 use super::rule::{Rule, Statement};
 use lists::{first, part};
 use terms::Place;
@@ -15,14 +16,14 @@ use words::Path;
 pub fn rule_number(text: &[u8], rules: &[Rule], name: Path) -> Option<usize>
     ensures { result ≡ rule_number (map (declaration text.now) rules.now) (path_name name.entry) }
 {
-    first(rules, |rule| Path::Spelled(rule.name.of(text)), &name)
+    first(&Text { bytes: text }, rules, name)
 }
 
 // Whether a name is among some words.
 pub fn is_among(text: &[u8], words: &[Place], name: Path) -> bool
     ensures { result ≡ is_in (path_name name.entry) (map (name_at text.now) words.now) }
 {
-    first(words, |word| Path::Spelled(word.of(text)), &name).is_some()
+    first(&Text { bytes: text }, words, name).is_some()
 }
 
 // The number of the statement that makes a path. Text, statements and words stand apart, and not in a Manifest: a reader asks it of the

@@ -1,4 +1,4 @@
-use Rattle.std.proofs.Common.{◌≡◌, ℕ, ◌<◌, Bool, List, map, length, is_some, Some, Ok, Result, sym, refl, ap, rules, ◌∙◌, arith}
+use Rattle.std.proofs.Common.{◌≡◌, ℕ, ◌<◌, Bool, List, map, length, is_some, Some, Ok, Result, sym, refl, ap, ◌∙◌, arith}
 use Rattle.std.specs.Option.{option_map}
 use Rattle.std.specs.Str.{bytes_eq}
 use Rattle.std.proofs.lemmas.List.{length-map, map_push}
@@ -30,7 +30,7 @@ known c =
     sym (place-some 0 (P (at_place text c.in_ok-row.row.name)) (items c.args.rows.now)) ∙
     ap (λ (n : List ℕ). is_some (place_from 0 (P n) (items c.args.rows.now))) (sym c.of-name.ensures) ∙
     ap (λ (xs : List Row). is_some (place_from 0 (P c.of-name.result.now) xs)) (sym c.as_slice.ensures) ∙
-    ap is_some (sym (c.first.ensures.place (P c.of-name.result.now) (λ x k h. search rules))) ∙ sym c.is_some.ensures
+    ap is_some (sym c.first.ensures.place) ∙ sym c.is_some.ensures
 
 pub returns-then-is_some : goal.returns-then-is_some
 returns-then-is_some c = record { room = refl; said = listed-before _ _ (listed c.args.line.text.now c.in_ok-row.row) (read (goal.at.returns-then-is_some c).In_ok-row) (known (goal.at.returns-then-is_some c).After-is_some ∙ c.if-is_some.true) }

@@ -79,11 +79,6 @@ pub record Taken (t : Table) (r : Record) (taken : Bool) (u : Table) : Type 0 wh
   pub limit : taken ≡ not (is_over (length t.names) r)
   pub after : u ≡ cond taken (learn t r) t
 
--- the same, where the answer and the table go on under other names
-pub taken_as : (t : Table) (r : Record) (taken b : Bool) (u v : DepsTable) → taken ≡ b → u ≡ v → Taken t r b (view v) → Taken t r taken (view u)
-taken_as t r taken b u v e f k =
-    record { limit = e ∙ k.limit; after = ap view f ∙ k.after ∙ ap (λ (x : Bool). cond x (learn t r) t) (sym e) }
-
 -- told by a call whose answer and table go on under other names
 pub taken_by : (t : Table) (r : Record) (taken b : Bool) (u v : DepsTable) → taken ≡ b → u ≡ v → b ≡ not (is_over (length t.names) r) → view v ≡ cond b (learn t r) t → Taken t r taken (view u)
 taken_by t r taken b u v e f l a = record { limit = e ∙ l; after = ap view f ∙ a ∙ ap (λ (x : Bool). cond x (learn t r) t) (sym e) }

@@ -1,5 +1,5 @@
 // Filling a table from an image.
-ghost use Rattle.std.specs.Prelude.{◌≡◌, ◌≤◌, true, not, ◌∷◌, length, if◌then◌else◌, Some, None, nat_le};
+ghost use Rattle.std.specs.Prelude.{◌≡◌, ◌≤◌, true, false, not, ◌∷◌, length, if◌then◌else◌, Some, None, nat_le};
 ghost use Rattle.std.specs.Option.{option_map};
 ghost use Rattle.terms.specs.Lists.{every, is_in};
 ghost use Rattle.terms.specs.Names.{holds_zero};
@@ -37,9 +37,23 @@ impl<'a> Deps<'a> {
 }
 
 impl DepsTable {
-    // Learns a deps record that was read; false, and nothing changed, where it has more than 64 inputs.
+    // Learns a name that was read, and so is not known; false, and nothing changed, where it is over a limit.
     // A bool, as `learn_path` and `learn_deps` answer: the caller takes them alike.
-    fn learn_read(&mut self, read: Deps) -> bool
+    fn take_path(&mut self, name: &[u8]) -> bool
+        requires some { 1 ≤ length name.now }
+        requires clear { holds_zero name.now ≡ false }
+        requires unknown { is_in name.now (view self.old).names ≡ false }
+        ensures limit { result ≡ not (is_over (length (view self.old).names) (path name.now)) }
+        ensures after { view self.new ≡ (if result then learn (view self.old) (path name.now) else view self.old) }
+    {
+        if self.path_count() >= 256 {
+            return false;
+        }
+        self.add_path(name)
+    }
+
+    // Learns a deps record that was read, and so has known ids; false, and nothing changed, where it is over a limit.
+    fn take_deps(&mut self, read: Deps) -> bool
         requires { every (is_known (view self.old).names) (read.output ∷ ids_of read) ≡ true }
         ensures limit { result ≡ not (is_over (length (view self.old).names) (deps read.entry.output read.entry.mtime (ids_of read.entry))) }
         ensures after { view self.new ≡ (if result then learn (view self.old) (deps read.entry.output read.entry.mtime (ids_of read.entry)) else view self.old) }
@@ -47,7 +61,8 @@ impl DepsTable {
         let Some(entry) = read.entry() else {
             return false;
         };
-        self.learn_deps(read.output as usize, &entry)
+        self.add_deps(read.output as usize, &entry);
+        true
     }
 
     // Reads the records behind the header into a bare table, up to the first bad one or the end, or to the first over a limit.
@@ -62,8 +77,8 @@ impl DepsTable {
         let tail = 'reading: loop {
             let (read, next) = read_record(image, at, self);
             let learned = match read {
-                Read::Path(name) => self.learn_path(name.value),
-                Read::Deps(deps) => self.learn_read(deps.value),
+                Read::Path(name) => self.take_path(name.value),
+                Read::Deps(deps) => self.take_deps(deps.value),
                 Read::Bad(cause) => {
                     break Some(At {
                         offset: at,

@@ -1,12 +1,12 @@
 // Making a table, asking it, and what it learns from one record.
-ghost use Rattle.std.specs.Prelude.{◌≡◌, length, IfOk, None, slice_index_or};
+ghost use Rattle.std.specs.Prelude.{◌≡◌, ◌<◌, true, false, length, IfOk, None, slice_index_or};
 ghost use Rattle.std.specs.Option.{option_map};
 ghost use Rattle.std.specs.List.{slice_get};
-ghost use Rattle.terms.specs.Lists.{place_in};
+ghost use Rattle.terms.specs.Lists.{is_in, place_in};
 ghost use Rattle.image.specs.Tables.{bare};
 ghost use Rattle.image.specs.Kept.{Kept};
 ghost use Rattle.image.specs.View.{entry_of};
-ghost use Rattle.image.specs.Learning.{view, path_learned, deps_learned};
+ghost use Rattle.image.specs.Learning.{view, path_learned, takes_deps, deps_learned};
 
 use super::entry::DepsEntry;
 use super::name::Name;
@@ -58,6 +58,27 @@ impl DepsTable {
         self.rows.get(id)?.entry
     }
 
+    // Takes these bytes, which are not known, as the next path, where they are a name; whether it did.
+    pub(super) fn add_path(&mut self, name: &[u8]) -> bool
+        requires unknown { is_in name.now (view self.old).names ≡ false }
+        requires room { length (view self.old).names < 256 }
+        ensures { (result, view self.new) ≡ path_learned (view self.old) name.now }
+    {
+        let Some(name) = Name::new(name) else {
+            return false;
+        };
+        self.rows.push_reserved(Row { name, entry: None });
+        true
+    }
+
+    // Takes an entry as the output's, where all its ids are known.
+    pub(super) fn add_deps(&mut self, output: usize, entry: &DepsEntry)
+        requires { takes_deps (view self.old) output (entry_of entry.now) ≡ true }
+        ensures { (true, view self.new) ≡ deps_learned (view self.old) output (entry_of entry.now) }
+    {
+        self.rows[output].entry = Some(*entry);
+    }
+
     // Takes these bytes as the next path; false, and nothing changed, where they are no name or known already, or 256 are known.
     // A bool, as a set's `insert` answers whether it took what it was given: no caller tells the reasons apart, and all but one would
     // throw an error away.
@@ -67,11 +88,7 @@ impl DepsTable {
         if self.path_count() >= 256 || self.id_of(name).is_some() {
             return false;
         }
-        let Some(name) = Name::new(name) else {
-            return false;
-        };
-        self.rows.push_reserved(Row { name, entry: None });
-        true
+        self.add_path(name)
     }
 
     // Takes an entry as the output's; false, and nothing changed, where an id is not known.
@@ -83,7 +100,7 @@ impl DepsTable {
         if output >= count || !entry.inputs().iter().all(|id| (*id as usize) < count) {
             return false;
         }
-        self.rows[output].entry = Some(*entry);
+        self.add_deps(output, entry);
         true
     }
 }

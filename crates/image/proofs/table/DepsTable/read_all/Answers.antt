@@ -8,12 +8,20 @@ use Rattle.image.specs.Tables.{Table}
 use Rattle.image.specs.Learning.{view}
 use Rattle.image.specs.Shown.{shown, ids_of, Leads}
 use Rattle.image.proofs.Told.{front-told}
-use Rattle.image.proofs.Fills.{read_is, taken_by, step-on, step-over, path-taken-by, taken_as, step_stop, scan-bad, scan-end}
+use Rattle.image.proofs.Fills.{read_is, taken_by, step-on, step-over, step_stop, scan-bad, scan-end}
 use Rattle.image.proofs.table.DepsTable.read_all.Goals as goal
 use Rattle.image.proofs.table.DepsTable.read_all.Goals.{in-Path, in-Deps}
 
-pub learn_read-learned-requires : goal.learn_read-learned-requires
-learn_read-learned-requires c =
+pub take_path-learned-requires : goal.take_path-learned-requires
+take_path-learned-requires c =
+    let t = view c.reading.self in
+    let name = c.in-Path.name.value.now in
+    let e = read_is t.names c.args.image.now c.reading.at _ (good (path name)) _ c.read_record-next.ensures.value (ap shown c.in-Path.is) in
+    let k = front-told t.names (drop c.reading.at c.args.image.now) (path name) e.0 in
+    record { some = k.0; clear = k.1; unknown = k.2 }
+
+pub take_deps-learned-requires : goal.take_deps-learned-requires
+take_deps-learned-requires c =
     let t = view c.reading.self in
     let d = c.in-Deps.deps.value in
     let r : Record = deps d.output d.mtime (ids_of d) in
@@ -51,13 +59,13 @@ returns-then-not-learned c =
       | in-Path w ↦
           let r : Record = path w.in-Path.name.value.now in
           let e = read_is t.names image at _ (good r) _ c.read_record-next.ensures.value (ap shown w.in-Path.is) in
-          let k = taken_as t r _ _ _ _ w.learned-is w.self-is (path-taken-by t w.in-Path.name.value.now _ _ (front-told t.names (drop at image) r e.0) w.learn_path-learned.ensures) in
+          let k = taken_by t r _ _ _ _ w.learned-is w.self-is w.take_path-learned.ensures.limit w.take_path-learned.ensures.after in
           step-over n image t u at _ r c.match-read.learned _ e k c.if-not-learned.true h c.reading.invariant.2
       | in-Deps w ↦
           let d = w.in-Deps.deps.value in
           let r : Record = deps d.output d.mtime (ids_of d) in
           let e = read_is t.names image at _ (good r) _ c.read_record-next.ensures.value (ap shown w.in-Deps.is) in
-          let k = taken_by t r _ _ _ _ w.learned-is w.self-is w.learn_read-learned.ensures.limit w.learn_read-learned.ensures.after in
+          let k = taken_by t r _ _ _ _ w.learned-is w.self-is w.take_deps-learned.ensures.limit w.take_deps-learned.ensures.after in
           step-over n image t u at _ r c.match-read.learned _ e k c.if-not-learned.true h c.reading.invariant.2
     ]
 
@@ -77,14 +85,14 @@ reading-preserved c =
       | in-Path w ↦
           let r : Record = path w.in-Path.name.value.now in
           let e = read_is t.names image at _ (good r) _ c.read_record-next.ensures.value (ap shown w.in-Path.is) in
-          let k = taken_as t r _ _ _ _ w.learned-is w.self-is (path-taken-by t w.in-Path.name.value.now _ _ (front-told t.names (drop at image) r e.0) w.learn_path-learned.ensures) in
+          let k = taken_by t r _ _ _ _ w.learned-is w.self-is w.take_path-learned.ensures.limit w.take_path-learned.ensures.after in
           let m = led _ r at c.read_record-next.result.1 (length image) (ap shown w.in-Path.is) c.read_record-next.ensures.leads in
           (omega (arith, m.0, c.reading.invariant.0), m.1, step-on n image t u at _ r c.match-read.learned _ e k c.if-not-learned.false h c.reading.invariant.2)
       | in-Deps w ↦
           let d = w.in-Deps.deps.value in
           let r : Record = deps d.output d.mtime (ids_of d) in
           let e = read_is t.names image at _ (good r) _ c.read_record-next.ensures.value (ap shown w.in-Deps.is) in
-          let k = taken_by t r _ _ _ _ w.learned-is w.self-is w.learn_read-learned.ensures.limit w.learn_read-learned.ensures.after in
+          let k = taken_by t r _ _ _ _ w.learned-is w.self-is w.take_deps-learned.ensures.limit w.take_deps-learned.ensures.after in
           let m = led _ r at c.read_record-next.result.1 (length image) (ap shown w.in-Deps.is) c.read_record-next.ensures.leads in
           (omega (arith, m.0, c.reading.invariant.0), m.1, step-on n image t u at _ r c.match-read.learned _ e k c.if-not-learned.false h c.reading.invariant.2)
     ]

@@ -28,9 +28,12 @@ impl<'a> Deps<'a> {
         ensures { option_map entry_of result ≡ (if nat_le (length (ids_of self.now)) 64 then Some (record { mtime = self.now.mtime; inputs = ids_of self.now }) else None) }
     {
         let (words, _) = self.ids.as_chunks::<4>();
+        if words.len() > 64 {
+            return None;
+        }
         let mut gathered = DepsEntry::new(self.mtime);
         for id in words {
-            gathered.push(u32::from_le_bytes(*id)).ok()?;
+            gathered.push(u32::from_le_bytes(*id)).unwrap();
         }
         Some(gathered)
     }

@@ -7,6 +7,7 @@ pub mod Pieces
 pub mod Telling
 pub mod Wrote
 pub mod Noted
+pub mod NoteBytes
 pub mod Addings
 pub mod NoteCases
 pub mod Opens

@@ -1,6 +1,7 @@
 -- Names and marks, token by token. Assumes nothing.
 use Rattle.std.proofs.Common.{◌≡◌, ℕ, ◌+◌, ◌≤◌, Bool, true, false, ◌||◌, List, [], ◌∷◌, length, drop, Some, None, Option, sym, refl, ap, ◌∙◌, arith}
 use Rattle.std.proofs.lemmas.Bool.{cond-true, cond-false}
+use Rattle.std.proofs.lemmas.List.{length-map, length-drop}
 use Rattle.terms.specs.Lists.{empty, some}
 use Rattle.words.specs.declared.spelling.Word.{Word}
 use Rattle.words.specs.declared.token.Token.{Token}
@@ -8,10 +9,12 @@ use Rattle.words.specs.declared.token.Token.TheVariants as token
 use Rattle.words.specs.Shown.{shown}
 use Rattle.words.specs.Spelling.{name_at}
 use Rattle.words.specs.Tokens.{Lexeme, named, tokens, front_token}
-use Rattle.words.proofs.Lexemes.{tokens_read, no_token}
+use Rattle.words.specs.Runs.{front}
+use Rattle.words.proofs.Lexemes.{tokens_read, no_token, tokens_few}
+use Rattle.words.proofs.Spans.{front-short}
 use Rattle.manifest.specs.declared.group.Group.{Group}
 use Rattle.manifest.proofs.Bound.{empty-some}
-use Rattle.manifest.specs.Building.{is_bar, is_bars, names_of, marks_of, following, behind, Inputs, inputs_of, with_rule, with_colon, build_of, rule_of}
+use Rattle.manifest.specs.Building.{is_named, is_bar, is_bars, spelled, names_of, marks_of, following, behind, Inputs, inputs_of, with_rule, with_colon, build_of, rule_of}
 use Rattle.manifest.specs.Groups.{is_long, rest, group_names, Sums, Gathered}
 
 -- the tokens from an offset on, by the token that was read there
@@ -74,20 +77,32 @@ word_first xs at next t w e f g = token-is xs at next t e f ∙ ap (λ u. rest x
 -- Gathering words ----------------------------------------------------------------------------------------------------------
 
 -- what is left of the words gives the sums
-pub record Turn (xs : List ℕ) (at here n : ℕ) (over : Bool) : Type 0 where
-  pub count : n + length (names_of (tokens (drop here xs))) ≡ length (names_of (tokens (drop at xs)))
-  pub long : (over || some is_long (names_of (tokens (drop here xs)))) ≡ some is_long (names_of (tokens (drop at xs)))
-  pub marks : marks_of (tokens (drop here xs)) ≡ marks_of (tokens (drop at xs))
-  pub on : n + at ≤ here
+pub record Turn (xs : List ℕ) (at n : ℕ) (over : Bool) (left : List Lexeme) : Type 0 where
+  pub count : n + length (names_of left) ≡ length (names_of (tokens (drop at xs)))
+  pub long : (over || some is_long (names_of left)) ≡ some is_long (names_of (tokens (drop at xs)))
+  pub marks : marks_of left ≡ marks_of (tokens (drop at xs))
+  pub few : n + length (names_of left) ≤ length xs
+
+-- no word was taken yet
+pub turn_first : (xs : List ℕ) (at : ℕ) (left : List Lexeme) → left ≡ tokens (drop at xs) → Turn xs at 0 false left
+turn_first xs at left e =
+    let T = tokens (drop at xs) in
+    let n = ap (λ ts. length (names_of ts)) e in
+    record {
+      count = omega (arith, n);
+      long = ap (λ ts. some is_long (names_of ts)) e;
+      marks = ap marks_of e;
+      few = omega (arith, n, length-map (front is_named T) spelled, front-short is_named T, tokens_few (drop at xs), length-drop at xs);
+    }
 
 or_none : (x : Bool) → (x || false) ≡ x
 or_none true = refl
 or_none false = refl
 
-pub turn_mark : (xs : List ℕ) (at here next n : ℕ) (long : Bool) (t : Token) → tokens (drop here xs) ≡ rest xs t next → IsMark t → Turn xs at here n long →
+pub turn_none : (xs : List ℕ) (at next n : ℕ) (long : Bool) (t : Token) (left : List Lexeme) → left ≡ rest xs t next → names_of left ≡ [] → Turn xs at n long left →
     Gathered xs at (record { at = at; count = n; long = long; mark = t; next = next })
-turn_mark xs at here next n long t e m u =
-    let none : names_of (tokens (drop here xs)) ≡ [] = ap names_of e ∙ mark_names xs t next m in
+turn_none xs at next n long t left e none u =
+    let m = no_word xs t next (sym (ap names_of e) ∙ none) in
     record {
       begins = refl;
       sums = record {
@@ -96,13 +111,6 @@ turn_mark xs at here next n long t e m u =
       };
       marks = sym (mark_marks xs t next m) ∙ ap marks_of (sym e) ∙ u.marks;
     }
-
--- the same of a token that stands where no name does
-pub turn_none : (xs : List ℕ) (at here behind next n : ℕ) (long : Bool) (t : Token) → shown xs t ≡ (front_token (drop behind xs)).0 → next ≡ behind + (front_token (drop behind xs)).1 → behind ≡ here →
-    names_of (tokens (drop here xs)) ≡ [] → Turn xs at here n long → Gathered xs at (record { at = at; count = n; long = long; mark = t; next = next })
-turn_none xs at here behind next n long t e f b none u =
-    let g : tokens (drop here xs) ≡ rest xs t next = ap (λ (k : ℕ). tokens (drop k xs)) (sym b) ∙ token-is xs behind next t e f in
-    turn_mark xs at here next n long t g (no_word xs t next (sym (ap names_of g) ∙ none)) u
 
 -- Behind marks -------------------------------------------------------------------------------------------------------------
 

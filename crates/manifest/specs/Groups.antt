@@ -75,6 +75,10 @@ abbrev pub WordSums : List ℕ → Option Word → Type 0
 WordSums bytes None = Unit {0}
 WordSums bytes (Some w) = (w.length ≡ length (word_name bytes w)) × (w.place.start + w.place.length ≤ length bytes)
 
+-- where a token that was read is a word, it is such a one, and the offset behind it is within the bytes
+abbrev pub Measured : List ℕ → Token → ℕ → Type 0
+Measured bytes t next = (w : Word) → t ≡ token.Word w → WordSums bytes (Some w) × (next ≤ length bytes)
+
 abbrev pub BuildSums : List ℕ → Option Built → Type 0
 BuildSums bytes None = Unit {0}
 BuildSums bytes (Some b) = Sums bytes b.outputs × InputSums bytes (Some b.inputs) × WordSums bytes (Some b.rule)

@@ -6,27 +6,26 @@ ghost use Rattle.manifest.specs.Groups.{rest, group_names, is_mark, PartsInputs,
 use super::group::Group;
 use super::limits::LONGEST;
 use super::words_left::WordsLeft;
-use words::{Token, next_token};
+use words::Token;
 
 // The words from `at` on, and the mark behind them: of bytes and an offset, since it answers offsets.
 pub(super) fn group_at(bytes: &[u8], at: usize) -> Group
     ensures { Gathered bytes.now at result }
 {
-    let mut words = WordsLeft { bytes, at };
+    let mut words = WordsLeft::of(bytes, at);
     let mut count = 0;
     let mut long = false;
-    // A `while let`, and no `for` over `&mut words`: where the words are left off is wanted behind it, and what such a borrow gives back was not proved.
+    // A `while let`, and no `for` over `&mut words`: what ended the words is wanted behind it, and what such a borrow gives back was not proved.
     while let Some(word) = words.next() {
         count += 1;
         long = long || word.length > LONGEST;
     }
-    let (mark, next) = next_token(bytes, words.at);
     Group {
         at,
         count,
         long,
-        mark,
-        next,
+        mark: words.token,
+        next: words.next,
     }
 }
 

@@ -4,6 +4,7 @@
 mod binding;
 mod build;
 mod built;
+mod each_word;
 mod fault;
 mod group;
 mod groups;

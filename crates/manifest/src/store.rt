@@ -16,8 +16,7 @@ pub(super) fn store(words: &mut GrowList<Place>, line: Line, at: usize)
     ensures stored { Stored line.entry.text.now (items words.old) (items words.new) (names_of (tokens (drop at (take line.entry.end line.entry.text.now)))) }
     ensures room { room words.new ≡ room words.old }
 {
-    let bytes = line.front();
-    for word in (WordsLeft { bytes, at }) {
+    for word in WordsLeft::of(line.front(), at) {
         words.push(word.place).unwrap();
     }
 }

@@ -1,30 +1,13 @@
-// The words that are left of a line, one by one, up to a mark.
-ghost use Rattle.std.specs.Prelude.{◌-◌, length};
-ghost use Rattle.std.specs.Iterator.{at_most};
-ghost use Rattle.manifest.specs.Left.{Gives};
+// The words that are left of a line, up to a mark.
+ghost use Rattle.manifest.specs.Groups.{Measured};
 
-use words::{Token, Word, next_token};
+use words::Token;
 
-// Those that stand from `at` on. At the end of them `at` stays before the mark.
+// Those that stand from `token` on, which was read and ends before `next`: each token is read once, and at the end of the words the one that ended them is at hand.
 #[derive(Drop)]
 pub(super) struct WordsLeft<'t> {
     pub(super) bytes: &'t [u8],
-    pub(super) at: usize,
-}
-
-impl Iterator for WordsLeft<'_> {
-    type Item = Word;
-
-    ghost next_gives = { Gives };
-
-    ghost remaining = { λ s. at_most (length s.bytes.now - s.at) };
-
-    fn next(&mut self) -> Option<Word> {
-        let (token, next) = next_token(self.bytes, self.at);
-        let Token::Word(word) = token else {
-            return None;
-        };
-        self.at = next;
-        Some(word)
-    }
+    pub(super) token: Token,
+    pub(super) next: usize,
+    ghost measured: { Measured bytes.now token next },
 }

@@ -1,12 +1,12 @@
 -- The tokens of a line, one by one. Assumes nothing.
 use Rattle.std.proofs.Common.{◌≡◌, ℕ, zero, suc, ◌+◌, ◌≤◌, Bool, true, false, cond, eqb, List, [], ◌∷◌, ◌++◌, length, take, drop, Some, None, Option, sym, refl, ap, ◌∙◌, subst, inl, inr, arith}
 use Rattle.std.specs.Option.{option_map}
-use Rattle.std.proofs.lemmas.List.{take_all, drop-drop, length-drop}
+use Rattle.std.proofs.lemmas.List.{take_all, drop-drop, length-drop, length-append}
 use Rattle.std.proofs.lemmas.Bool.{cases_Bool, cond-true, cond-false, or_from, ne_eqb}
 use Rattle.words.specs.declared.class.Class.TheVariants.{Space}
 use Rattle.words.specs.Runs.{is_of, front, beyond}
 use Rattle.words.specs.Spelling.{ends, Spelled, nothing, further, spelling, word, name_at}
-use Rattle.words.specs.Tokens.{Lexeme, colon, bar, bars, wrong, named, word_begun, bar_begun, struck, tokens_past, tokens, front_token}
+use Rattle.words.specs.Tokens.{Lexeme, colon, bar, bars, wrong, named, word_begun, bar_begun, struck, begun, tokens_past, tokens, front_token}
 use Rattle.words.proofs.Spans.{drop_run}
 use Rattle.words.proofs.Spells.{Spells, spells}
 use Rattle.words.specs.Steps.{word_of}
@@ -173,6 +173,19 @@ struck-some b bs =
       | true ↦ refl
       | false ↦ elim (eqb b 124) as (λ v. length (cond {A = Taken} v (bar_begun bs) (word_begun (word (b ∷ bs)) (length bs))).0 ≡ 1) [ true ↦ bar-some bs | false ↦ word_some (word (b ∷ bs)) (length bs) ]
     ]
+
+-- there are no more tokens than bytes
+begun-few : (b : ℕ) (bs : List ℕ) → length (begun b bs).0 ≤ 1
+begun-few b bs = elim (eqb b 32) as (λ v. length (cond {A = Taken} v ([], 0) (struck b bs)).0 ≤ 1) [ true ↦ omega arith | false ↦ omega (arith, struck-some b bs) ]
+
+past-few : (n : ℕ) (bs : List ℕ) → length (tokens_past n bs) ≤ length bs
+past-few zero [] = omega arith
+past-few (suc n) [] = omega arith
+past-few zero (b ∷ bs) = let ih = past-few (begun b bs).1 bs in omega (arith, begun-few b bs, length-append (begun b bs).0 (tokens_past (begun b bs).1 bs), ih)
+past-few (suc n) (b ∷ bs) = let ih = past-few n bs in omega (arith, ih)
+
+pub tokens_few : (bs : List ℕ) → length (tokens bs) ≤ length bs
+tokens_few bs = past-few 0 bs
 
 pub no_token : (bs : List ℕ) → [] ≡ (front_token bs).0 → tokens bs ≡ []
 no_token [] e = refl

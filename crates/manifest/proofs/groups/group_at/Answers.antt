@@ -1,8 +1,13 @@
-use Rattle.std.proofs.Common.{ℕ, List, drop, sym, ap, ◌∙◌}
-use Rattle.words.specs.Tokens.{tokens}
-use Rattle.manifest.specs.Building.{names_of}
-use Rattle.manifest.proofs.Marks.{turn_none}
+use Rattle.std.proofs.Common.{sym, ap, ◌∙◌}
+use Rattle.manifest.specs.Groups.{rest}
+use Rattle.manifest.specs.Left.{tokens_left}
+use Rattle.manifest.proofs.Marks.{turn_first, turn_none}
 use Rattle.manifest.proofs.groups.group_at.Goals as goal
+
+pub loop-word-init : goal.loop-word-init
+loop-word-init c =
+    let w = c.of-words.ensures in
+    record { same = w.same; turn = turn_first c.args.bytes.now c.args.at (tokens_left c.of-words.result) w.left }
 
 pub returns : goal.returns
 returns c =
@@ -10,6 +15,6 @@ returns c =
     let i = c.loop-word.invariant in
     let k = c.in_default.ensures.steps in
     let s = c.loop-word.words in
-    let t = c.next_token-mark.result in
-    let none = ap (λ (ys : List ℕ). names_of (tokens (drop s.at ys))) (sym i.same) ∙ k.0 in
-    turn_none xs c.args.at s.at c.next.new.self.at t.1 c.loop-word.count c.loop-word.long t.0 c.next_token-mark.ensures.token c.next_token-mark.ensures.next k.1 none i.turn
+    let t = c.next.new.self in
+    let e = ap (λ ys. rest ys s.token s.next) i.same ∙ ap (λ u. rest xs u s.next) (sym k.1) ∙ ap (rest xs t.token) (sym k.2) in
+    turn_none xs c.args.at t.next c.loop-word.count c.loop-word.long t.token (tokens_left s) e k.0 i.turn

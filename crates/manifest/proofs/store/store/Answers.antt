@@ -15,8 +15,8 @@ loop-word-init c =
     let old = items c.args.words.now in
     let all = names_of (tokens (drop c.args.at (take c.args.line.end text))) in
     let is = c.into_iter-word-iterator.ensures.into_iter_gives in
-    let left = ap (λ s. names_of (tokens_left s)) is ∙ ap (λ (xs : List ℕ). names_of (tokens (drop c.args.at xs))) c.front-bytes.ensures in
-    (tt, tt, ap (λ s. s.bytes.now) is ∙ c.front-bytes.ensures, subst (λ (ns : List (List ℕ)). Storing text old old ns all) (sym left) (storing_first text old all), refl)
+    let left = ap (λ s. names_of (tokens_left s)) is ∙ ap names_of c.of-word-items.ensures.left ∙ ap (λ (xs : List ℕ). names_of (tokens (drop c.args.at xs))) c.front.ensures in
+    (tt, tt, ap (λ s. s.bytes.now) is ∙ c.of-word-items.ensures.same ∙ c.front.ensures, subst (λ (ns : List (List ℕ)). Storing text old old ns all) (sym left) (storing_first text old all), refl)
 
 pub loop-word-preserved : goal.loop-word-preserved
 loop-word-preserved c =

@@ -1,8 +1,9 @@
 // When the power fails, and what a failure keeps.
 ghost use Rattle.std.specs.Prelude.{◌≡◌, ℕ, length, refl};
-ghost use Rattle.medium.specs.State.{Bytes, all, cut};
-ghost use Rattle.media.specs.Fill.{whole, over_pages, whole-cut};
-ghost use Rattle.media.specs.Told.{is_due, counted, never};
+ghost use Rattle.std.proofs.Common.{ap};
+ghost use Rattle.medium.specs.State.{State, all};
+ghost use Rattle.media.specs.Fill.{over_pages, whole-cut};
+ghost use Rattle.media.specs.Told.{is_due, counted, never, fallen, fallen_to, fallen_whole};
 
 // What a failure inside `promote` leaves.
 #[derive(Clone, Copy, Debug, PartialEq, Eq)]
@@ -49,8 +50,8 @@ pub trait Failing: Drop {
     // How many of the pending bytes a failure between calls keeps, of d durable bytes and n in all.
     ghost kept: { ℕ → ℕ → ℕ };
 
-    // What that failure leaves of the live bytes.
-    ghost left: { Bytes → Bytes };
+    // What that failure leaves.
+    ghost falls: { State → State };
 
     fn plan(&self) -> Plan
         ensures { result ≡ plan self.now };
@@ -63,7 +64,7 @@ pub trait Failing: Drop {
     fn keep(&self, durable: usize, len: usize) -> usize
         ensures { result ≡ kept durable len };
 
-    ghost cuts: { (b : Bytes) → left b ≡ cut (kept (length b.durable) (length (all b))) b };
+    ghost cuts: { (s : State) → falls s ≡ fallen (kept (length s.live.durable) (length (all s.live))) s };
 }
 
 // It fails as it is told, and between calls keeps nothing that is pending.
@@ -72,9 +73,9 @@ impl Failing for Plan {
 
     ghost kept = { λ d n. 0 };
 
-    ghost left = { λ b. cut 0 b };
+    ghost falls = { fallen 0 };
 
-    ghost cuts = { λ b. refl };
+    ghost cuts = { λ s. refl };
 
     fn plan(&self) -> Plan {
         *self
@@ -98,9 +99,9 @@ impl Failing for Pages {
 
     ghost kept = { over_pages };
 
-    ghost left = { whole };
+    ghost falls = { fallen_whole };
 
-    ghost cuts = { whole-cut };
+    ghost cuts = { λ s. ap (λ b. fallen_to b s) (whole-cut s.live) };
 
     fn plan(&self) -> Plan {
         Plan::NEVER

@@ -5,7 +5,7 @@ ghost use Rattle.medium.specs.declared.Fault.TheVariants.{Off};
 ghost use Rattle.medium.specs.State.{none, with_promoted};
 ghost use Rattle.medium.specs.Calls.{Measured, ReadOut, Appended, Synced, Begun, Drafted, DraftSynced, Promoted, Failed, Returned};
 ghost use Rattle.media.specs.Memory.{filled};
-ghost use Rattle.media.specs.Told.{stepped, fallen, fallen_to, append, sync, begin, draft_append, draft_sync, promote, power_return, measure, count, copied};
+ghost use Rattle.media.specs.Told.{stepped, fallen, append, sync, begin, draft_append, draft_sync, promote, power_return, measure, count, copied};
 ghost use Rattle.media.specs.View.{of_store, outcome, of_bench, of_paged, started};
 
 use crate::area::Area;
@@ -220,7 +220,7 @@ impl<A: Area, F: Failing> Medium for Store<A, F> {
 
     fn power_failure(&mut self)
         ensures answer { Failed (of_store A.memory self.old) (of_store A.memory self.new) }
-        ensures exact { of_store A.memory self.new ≡ fallen_to (F.left (of_store A.memory self.old).live) (of_store A.memory self.old) }
+        ensures exact { of_store A.memory self.new ≡ F.falls (of_store A.memory self.old) }
         ensures failing { self.new.failing ≡ self.old.failing }
     {
         let room = self.room();

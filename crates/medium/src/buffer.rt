@@ -50,11 +50,12 @@ impl<M: Medium> WriteBuffer<M> {
         ensures passed { Passed (held_by M.Medium.state self.old) (M.Medium.state self.old.below) result (M.Medium.state self.new.below) }
     {
         let count = self.sizes().map_or(0, |sizes| sizes.held);
-        let held = self.held;
-        self.held.truncate(0);
         if count == 0 {
+            self.held.truncate(0);
             return Ok(());
         }
+        let held = self.held;
+        self.held.truncate(0);
         self.below.append(&held.as_slice()[..count])
     }
 }

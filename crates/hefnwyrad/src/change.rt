@@ -53,11 +53,10 @@ impl<'a, C: Change> Task<'a> for Changing<'_, C> {
 }
 
 impl<'a> LogFile<'a> {
-    // Makes a change of the log. The file stays as it is where the change is refused or leaves the bytes as they were.
-    pub(super) fn change<C: Change>(self, change: &C) -> Result<Sizes, Failure<'a>> {
-        let image = self.read_or_none()?;
-        let bytes = self.on_bench(&image, &Changing { change })?;
-        if bytes.as_slice() != image.as_slice() {
+    // Makes a change of the log of these bytes. The file stays as it is where the change is refused or leaves the bytes as they were.
+    pub(super) fn change<C: Change>(self, image: &[u8], change: &C) -> Result<Sizes, Failure<'a>> {
+        let bytes = self.on_bench(image, &Changing { change })?;
+        if bytes.as_slice() != image {
             self.replace(&bytes)?;
         }
         Ok(Sizes {

@@ -84,7 +84,8 @@ pub(super) enum Failure<'a> {
     // The file has so many bytes.
     TooLarge(&'a str, u64),
     Unreadable(&'a str, io::Error),
-    Unwritable(&'a str, io::Error),
+    // The file stays, and what was written of a temporary file beside it is of no use.
+    Unwritable(&'a str, io::Error, String),
     // The file is no log.
     NoLog(&'a str, Refusal),
     // A call of the log in the file was refused.
@@ -126,7 +127,7 @@ impl fmt::Display for Failure<'_> {
                 "{path}: has {len} bytes, more than the {LONGEST} of a log"
             ),
             Failure::Unreadable(path, error) => write!(f, "{path}: cannot be read: {error}"),
-            Failure::Unwritable(path, error) => write!(f, "{path}: cannot be replaced: {error}"),
+            Failure::Unwritable(path, error, _) => write!(f, "{path}: cannot be replaced: {error}"),
             Failure::NoLog(path, refusal) => write!(f, "{path}: {}", Numbered(*refusal)),
             Failure::Refused(path, refused) => write!(f, "{path}: {refused}"),
             Failure::Io(error) => write!(f, "{error}"),

@@ -36,7 +36,8 @@ impl<'a> LogFile<'a> {
         }
     }
 
-    // Replaces the log: the bytes go to a temporary file beside it, which is synced and renamed over it. Where that cannot be done, the log stays as it is.
+    // Replaces the log: the bytes go to a temporary file beside it, which is synced and renamed over it. Where that cannot be done, the log stays as it is, and the
+    // temporary file is named in the failure.
     pub(super) fn replace(self, bytes: &[u8]) -> Result<(), Failure<'a>> {
         let draft = format!(in self.rt.alloc(); "{}.draft", self.path)?;
         let done = write_synced(self.rt, draft.as_str(), bytes).and_then(|()| fs::rename(
@@ -44,10 +45,7 @@ impl<'a> LogFile<'a> {
             draft.as_str(),
             self.path,
         ));
-        done.map_err(|e| {
-            let _ = fs::remove_file(self.rt, draft.as_str());
-            Failure::Unwritable(self.path, e)
-        })
+        done.map_err(|e| Failure::Unwritable(self.path, e, draft))
     }
 }
 

@@ -14,7 +14,7 @@ mod shown;
 use failure::{Failure, USAGE};
 use files::LogFile;
 use std::process::ExitCode;
-use std::{env, io};
+use std::{env, fs, io};
 
 fn arguments(rt: &HostRuntime) -> io::Result<Vec<String>> {
     let mut words = Vec::new(rt.alloc());
@@ -50,12 +50,25 @@ fn run<'a>(rt: &'a HostRuntime, words: &'a [String]) -> Result<(), Failure<'a>> 
     }
 }
 
-// Says on standard error why what was asked could not be done.
-fn complain(rt: &HostRuntime, failure: &Failure) -> ExitCode {
-    let _ = match failure {
+fn tell(rt: &HostRuntime, failure: &Failure) -> io::Result<()> {
+    match failure {
         Failure::Usage => eprintln!(rt; "{failure}"),
         failure => eprintln!(rt; "hefnwyrad: {failure}"),
-    };
+    }
+}
+
+// Says on standard error why what was asked could not be done, or else, once, why that could not be said. A temporary file goes
+// when it is said what became of it.
+fn complain(rt: &HostRuntime, failure: &Failure) -> ExitCode {
+    match (tell(rt, failure), failure) {
+        (Ok(()), Failure::Unwritable(_, _, draft)) => {
+            let _ = fs::remove_file(rt, draft.as_str());
+        }
+        (Ok(()), _) | (Err(_), Failure::Io(_)) => {}
+        (Err(e), _) => {
+            let _ = tell(rt, &Failure::Io(e));
+        }
+    }
     ExitCode::FAILURE
 }
 

@@ -44,6 +44,7 @@ impl<'a> LogFile<'a> {
         let Ok(time) = mtime.parse::<u64>() else {
             return Err(Failure::NoMtime(mtime));
         };
+        let image = self.read_or_none()?;
         let mut bytes = Vec::new(self.rt.alloc());
         let place = put(&mut bytes, output)?;
         let mut places = Vec::new(self.rt.alloc());
@@ -56,7 +57,7 @@ impl<'a> LogFile<'a> {
             mtime: time,
             inputs: &places,
         };
-        self.change(&Noting { note })?;
+        self.change(&image, &Noting { note })?;
         println!(self.rt; "note {}: noted", Shown(output.as_bytes()))?;
         Ok(())
     }

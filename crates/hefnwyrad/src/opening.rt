@@ -46,18 +46,24 @@ fn with_room(rt: &HostRuntime, image: &[u8]) -> io::Result<Vec<u8>> {
 }
 
 impl<'a> LogFile<'a> {
-    // Opens the log on a medium, says what becomes of a tail, and does the task.
+    // Opens the log, and says what becomes of a tail. The copy buffer is let go before a task needs memory of its own.
+    fn open<M: Medium>(self, log: &mut Log<M>, fate: &str) -> Result<(), Failure<'a>> {
+        let mut copy = vec![in self.rt.alloc(); 0u8; LONGEST]?;
+        let opened = log
+            .open(&mut copy)
+            .map_err(|refusal| self.refused(Call::Open.refused(refusal)))?;
+        print_tail(self.rt, opened.tail, fate)?;
+        Ok(())
+    }
+
+    // Opens the log on a medium, and does the task.
     fn on_medium<M: Medium + Drop, T: Task<'a>>(
         self,
         medium: M,
         task: &T,
     ) -> Result<T::Outcome, Failure<'a>> {
         let mut log = Log::new(self.rt.alloc(), medium)?;
-        let mut copy = vec![in self.rt.alloc(); 0u8; LONGEST]?;
-        let opened = log
-            .open(&mut copy)
-            .map_err(|refusal| self.refused(Call::Open.refused(refusal)))?;
-        print_tail(self.rt, opened.tail, T::FATE)?;
+        self.open(&mut log, T::FATE)?;
         task.run(self, log)
     }
 

@@ -18,7 +18,8 @@ impl Change for Recompaction {
 impl<'a> LogFile<'a> {
     // Recompacts the log.
     pub(super) fn recompact(self) -> Result<(), Failure<'a>> {
-        let Sizes { before, after } = self.change(&Recompaction)?;
+        let image = self.read_or_none()?;
+        let Sizes { before, after } = self.change(&image, &Recompaction)?;
         println!(self.rt; "recompact: done, {before} bytes before and {after} now")?;
         Ok(())
     }

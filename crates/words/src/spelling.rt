@@ -38,12 +38,18 @@ fn step(rest: &[u8]) -> Result<Option<&[u8]>, WrongSign>
     ensures step { (at n : ℕ) → measured at n (word rest.now) ≡ stepped rest.now at n result }
     ensures leads { Leads rest.now result }
 {
-    match rest {
-        [] => Ok(None),
-        [b, ..] if ends_word(*b) => Ok(None),
-        [b'$', b, behind @ ..] if takes_sign(*b) => Ok(Some(behind)),
-        [b'$', ..] => Err(WrongSign),
-        [_, behind @ ..] => Ok(Some(behind)),
+    let Some((b, behind)) = rest.split_first() else {
+        return Ok(None);
+    };
+    if ends_word(*b) {
+        return Ok(None);
+    }
+    if *b != b'$' {
+        return Ok(Some(behind));
+    }
+    match behind.split_first() {
+        Some((b, behind)) if takes_sign(*b) => Ok(Some(behind)),
+        _ => Err(WrongSign),
     }
 }
 

@@ -1,16 +1,16 @@
 -- Names that are not known yet. Assumes nothing.
-use Rattle.std.proofs.Common.{◌≡◌, ℕ, ◌+◌, ◌<◌, Bool, true, false, cond, ◌||◌, List, [], ◌∷◌, ◌++◌, length, is_some, Some, None, Option, sym, refl, ap, ◌∙◌, arith}
+use Rattle.std.proofs.Common.{◌≡◌, ℕ, ◌+◌, ◌<◌, ◌≤◌, Bool, true, false, cond, ◌||◌, List, [], ◌∷◌, ◌++◌, map, length, drop, is_some, Some, None, Option, sym, refl, ap, ◌∙◌, inl, inr, arith}
 use Rattle.std.specs.Option.{option_map}
 use Rattle.std.specs.Borrow.{Bor}
-use Rattle.std.specs.List.{list_any, position, position_from}
+use Rattle.std.specs.List.{position, position_from}
 use Rattle.std.proofs.lemmas.Iterator.Adapters.{position_from-zero}
 use Rattle.std.specs.Str.{bytes_eq}
 use Rattle.std.proofs.lemmas.Slice.Eq.{bytes_eq-Decides}
-use Rattle.std.proofs.lemmas.List.{append-nil, append_assoc, map_push}
-use Rattle.std.proofs.lemmas.Bool.{cond-true, cond-false, or_left, or_right, or_from, or_parts}
-use Rattle.terms.specs.Lists.{some, is_in, place_from, place_in, ◌▷◌}
+use Rattle.std.proofs.lemmas.List.{append-nil, append_assoc, map_push, at_drop_all}
+use Rattle.std.proofs.lemmas.Bool.{cases_Bool, cond-true, cond-false, and_parts, and_from, or_left, or_right, or_from, or_parts}
+use Rattle.terms.specs.Lists.{every, some, is_in, place_from, place_in, ◌▷◌}
 use Rattle.image.proofs.Lookup.{decided}
-use Rattle.image.proofs.Tests.{place_in_lem}
+use Rattle.image.proofs.Tests.{place_in_lem, every_push}
 use Rattle.notes.specs.Notes.{unknown, new_names, id_at, id_in}
 use Rattle.notes.proofs.Places as places
 use Rattle.depslog.specs.Texts.{texts}
@@ -19,11 +19,6 @@ use Rattle.depslog.specs.Texts.{texts}
 
 same-turned : (a b : List ℕ) → bytes_eq a b ≡ bytes_eq b a
 same-turned a b = let q = bytes_eq-Decides b a in decided (bytes_eq b a) a b ((λ t. sym (q.0 t)), (λ s. q.1 (sym s)))
-
-pub contained : (n : List ℕ) (xs : List (Bor (List ℕ))) → list_any (λ (y : Bor (List ℕ)). bytes_eq y.now n) xs ≡ is_in n (texts xs)
-contained n [] = refl
-contained n (x ∷ xs) =
-    ap (λ (b : Bool). b || list_any (λ (y : Bor (List ℕ)). bytes_eq y.now n) xs) (same-turned x.now n) ∙ ap (λ (b : Bool). bytes_eq n x.now || b) (contained n xs)
 
 -- where a name stands among these
 placed_from : (n : List ℕ) (i : ℕ) (xs : List (Bor (List ℕ))) → position_from (λ (y : Bor (List ℕ)). bytes_eq y.now n) i xs ≡ place_from i (bytes_eq n) (texts xs)
@@ -73,8 +68,9 @@ taken_next known fresh after n ns e = ap (λ (xs : List (List ℕ)). together kn
 pub together-none : (known ns : List (List ℕ)) → together known [] ns ≡ new_names known ns
 together-none known ns = ap (λ (xs : List (List ℕ)). new_names xs ns) (append-nil known)
 
-pub together-all : (known fresh : List (List ℕ)) → together known fresh [] ≡ fresh
-together-all known fresh = append-nil fresh
+-- with nothing left, all are taken in
+pub together-all : (known fresh : List (List ℕ)) (xs : List (Bor (List ℕ))) (k : ℕ) → length xs ≤ k → fresh ≡ together known fresh (texts (drop k xs))
+together-all known fresh xs k h = sym (append-nil fresh) ∙ sym (at_drop_all (λ (ys : List (Bor (List ℕ))). together known fresh (texts ys)) xs k h)
 
 -- Ids ----------------------------------------------------------------------------------------------------------------------
 
@@ -90,10 +86,10 @@ shifted j i p (y ∷ ys) =
     ap (λ (o : Option ℕ). cond (p y) (Some (j + i)) o) (ap (λ (k : ℕ). place_from k p ys) (omega arith) ∙ shifted j (i + 1) p ys) ∙
     elim (p y) as (λ b. cond b (Some (j + i)) (option_map (λ (k : ℕ). j + k) (place_from (i + 1) p ys)) ≡ option_map (λ (k : ℕ). j + k) (cond b (Some i) (place_from (i + 1) p ys))) [ true ↦ refl | false ↦ refl ]
 
-some_in : (n : List ℕ) (names : List (List ℕ)) (id : ℕ) → Some id ≡ place_in n names → is_in n names ≡ true
+pub some_in : (n : List ℕ) (names : List (List ℕ)) (id : ℕ) → Some id ≡ place_in n names → is_in n names ≡ true
 some_in n names id e = sym (place_in_lem 0 (bytes_eq n) names) ∙ ap is_some (sym e)
 
-none_in : (n : List ℕ) (names : List (List ℕ)) → None ≡ place_in n names → is_in n names ≡ false
+pub none_in : (n : List ℕ) (names : List (List ℕ)) → None ≡ place_in n names → is_in n names ≡ false
 none_in n names e = sym (place_in_lem 0 (bytes_eq n) names) ∙ ap is_some (sym e)
 
 -- a known name keeps its id
@@ -112,6 +108,42 @@ pub id_new : (n : List ℕ) (known fresh : List (List ℕ)) (k : ℕ) → None �
 id_new n known fresh k e f =
     (sym (ap id_at (place-behind n known fresh e ∙ ap (option_map (λ (j : ℕ). length known + j)) (sym f))), (id_known n fresh [] k f).1)
 
--- any other has none
-pub id_none : (n : List ℕ) (known fresh : List (List ℕ)) → None ≡ place_in n known → None ≡ place_in n fresh → 0 ≡ id_in (known ++ fresh) n
-id_none n known fresh e f = sym (ap id_at (place-behind n known fresh e ∙ ap (option_map (λ (j : ℕ). length known + j)) (sym f)))
+-- and the last of them, which was not among those before, behind these
+pub id_last : (n : List ℕ) (known fresh : List (List ℕ)) → None ≡ place_in n known → None ≡ place_in n fresh → length known + length fresh ≡ id_in (known ++ (fresh ▷ n)) n
+id_last n known fresh e f =
+    let z : 0 + length fresh ≡ length fresh = omega arith in
+    let p : place_in n (fresh ▷ n) ≡ Some (length fresh) =
+    places.place_push (bytes_eq n) 0 fresh n (none_in n fresh f) ∙ cond-true (bytes_eq n n) (Some (0 + length fresh)) None (places.same_self n) ∙ ap Some z in
+    (id_new n known (fresh ▷ n) (length fresh) e (sym p)).0
+
+-- As more are taken in ---------------------------------------------------------------------------------------------------------
+
+-- names that are among some stay so with more behind them, and keep their ids
+ids_stay : (all more ns : List (List ℕ)) → every (λ x. is_in x all) ns ≡ true → (every (λ x. is_in x (all ++ more)) ns ≡ true) × (map (id_in (all ++ more)) ns ≡ map (id_in all) ns)
+ids_stay all more [] e = (refl, refl)
+ids_stay all more (n ∷ ns) e =
+    let q = and_parts (is_in n all) (every (λ x. is_in x all) ns) e in
+    let r = ids_stay all more ns q.1 in (
+      and_from (is_in n (all ++ more)) (every (λ x. is_in x (all ++ more)) ns) (places.in_left n all more q.0) r.0,
+      ap (λ (i : ℕ). i ∷ map (id_in (all ++ more)) ns) (ap id_at ((places.is_known_lem all n q.0).stays more)) ∙ ap (λ (is : List ℕ). id_in all n ∷ is) r.1,
+    )
+
+-- a name that is taken in is among them
+in_then : (n : List ℕ) (all : List (List ℕ)) → is_in n (all ++ unknown all n) ≡ true
+in_then n all =
+    elim (cases_Bool (is_in n all)) [
+      | inl e ↦ places.in_left n all (unknown all n) e
+      | inr e ↦ ap (λ (ns : List (List ℕ)). is_in n (all ++ ns)) (cond-false (is_in n all) [] (n ∷ []) e) ∙ places.in_middle n all []
+    ]
+
+-- one more of some names is taken in: they are all among them, and those before keep their ids
+pub taken_more : (known fresh after ns : List (List ℕ)) (n : List ℕ) → after ≡ fresh ++ unknown (known ++ fresh) n → every (λ x. is_in x (known ++ fresh)) ns ≡ true →
+    (every (λ x. is_in x (known ++ after)) (ns ▷ n) ≡ true) × (map (id_in (known ++ after)) ns ≡ map (id_in (known ++ fresh)) ns)
+taken_more known fresh after ns n e k =
+    let all : List (List ℕ) = known ++ fresh in
+    let those : List (List ℕ) = all ++ unknown all n in
+    let b : known ++ after ≡ those = ap (λ (xs : List (List ℕ)). known ++ xs) e ∙ sym (append_assoc known fresh (unknown all n)) in
+    let s = ids_stay all (unknown all n) ns k in (
+      ap (λ (xs : List (List ℕ)). every (λ x. is_in x xs) (ns ▷ n)) b ∙ every_push (λ x. is_in x those) ns n s.0 (in_then n all),
+      ap (λ (xs : List (List ℕ)). map (id_in xs) ns) b ∙ s.1,
+    )

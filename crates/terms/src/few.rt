@@ -2,8 +2,9 @@
 ghost use Rattle.std.specs.Prelude.{◌≡◌, ◌≤◌, length};
 
 pub struct Few<T, const N: usize> {
-    pub(super) slots: [T; N],
+    // Before the slots, so that what is written into a slot is known not to meet it.
     pub(super) len: usize,
+    pub(super) slots: [T; N],
     ghost few: { len ≤ N },
     ghost long: { length slots ≡ N },
 }

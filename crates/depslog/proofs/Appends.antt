@@ -1,5 +1,5 @@
 -- Path records one after the other, and names by references. Assumes nothing.
-use Rattle.std.proofs.Common.{◌≡◌, ℕ, zero, suc, ◌+◌, ◌<◌, Bool, true, List, [], ◌∷◌, ◌++◌, length, get_or, take, sym, ap, ◌∙◌, arith, Bor}
+use Rattle.std.proofs.Common.{◌≡◌, ℕ, zero, suc, ◌+◌, ◌<◌, Bool, true, List, [], ◌∷◌, ◌++◌, map, length, get_or, take, sym, ap, ◌∙◌, arith, Bor}
 use Rattle.std.proofs.lemmas.List.{append-nil, get_or-map, length-map, take_more}
 use Rattle.std.proofs.lemmas.Bool.{and_parts}
 use Rattle.terms.specs.Lists.{every, ◌▷◌}
@@ -24,9 +24,11 @@ abbrev pub nowhere : Bor (List ℕ)
 nowhere = record { ref_ptr = (0, 0); now = [] }
 
 -- the name at an index
+pub name_among : {A : Type 0} (f : A → List ℕ) (xs : List A) (k : ℕ) (d : A) → every is_name (map f xs) ≡ true → k < length xs → is_name (f (get_or xs k d)) ≡ true
+name_among f xs k d e h = ap is_name (sym (get_or-map f xs k d [] h)) ∙ every_get is_name (map f xs) k [] e (omega (arith, h, length-map xs f))
+
 pub named_at : (xs : List (Bor (List ℕ))) (k : ℕ) (d : Bor (List ℕ)) → every is_name (texts xs) ≡ true → k < length xs → is_name (get_or xs k d).now ≡ true
-named_at xs k d e h =
-    ap is_name (sym (get_or-map (λ (y : Bor (List ℕ)). y.now) xs k d [] h)) ∙ every_get is_name (texts xs) k [] e (omega (arith, h, length-map xs (λ (y : Bor (List ℕ)). y.now)))
+named_at xs k d e h = name_among (λ (y : Bor (List ℕ)). y.now) xs k d e h
 
 -- those up to an index
 pub texts_more : (xs : List (Bor (List ℕ))) (k : ℕ) (d : Bor (List ℕ)) → k < length xs → texts (take (k + 1) xs) ≡ texts (take k xs) ▷ (get_or xs k d).now

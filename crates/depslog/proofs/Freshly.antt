@@ -1,17 +1,17 @@
 -- Names that are not known yet. Assumes nothing.
-use Rattle.std.proofs.Common.{◌≡◌, ℕ, ◌+◌, ◌<◌, ◌≤◌, Bool, true, false, cond, ◌||◌, List, [], ◌∷◌, ◌++◌, map, length, drop, is_some, Some, None, Option, sym, refl, ap, ◌∙◌, inl, inr, arith}
+use Rattle.std.proofs.Common.{◌≡◌, ℕ, ◌+◌, ◌<◌, Bool, true, false, cond, ◌||◌, List, [], ◌∷◌, ◌++◌, map, length, is_some, Some, None, Option, sym, refl, ap, ◌∙◌, inl, inr, arith}
 use Rattle.std.specs.Option.{option_map}
 use Rattle.std.specs.Borrow.{Bor}
 use Rattle.std.specs.List.{position, position_from}
 use Rattle.std.proofs.lemmas.Iterator.Adapters.{position_from-zero}
 use Rattle.std.specs.Str.{bytes_eq}
 use Rattle.std.proofs.lemmas.Slice.Eq.{bytes_eq-Decides}
-use Rattle.std.proofs.lemmas.List.{append-nil, append_assoc, map_push, at_drop_all}
+use Rattle.std.proofs.lemmas.List.{append_assoc, map_push}
 use Rattle.std.proofs.lemmas.Bool.{cases_Bool, cond-true, cond-false, and_parts, and_from, or_left, or_right, or_from, or_parts}
 use Rattle.terms.specs.Lists.{every, some, is_in, place_from, place_in, ◌▷◌}
 use Rattle.image.proofs.Lookup.{decided}
 use Rattle.image.proofs.Tests.{place_in_lem, every_push}
-use Rattle.notes.specs.Notes.{unknown, new_names, id_at, id_in}
+use Rattle.notes.specs.Notes.{unknown, id_at, id_in}
 use Rattle.notes.proofs.Places as places
 use Rattle.depslog.specs.Texts.{texts}
 
@@ -50,27 +50,6 @@ is_known_lem n known fresh a = cond-true (is_in n (known ++ fresh)) [] (n ∷ []
 
 pub is-taken : (n : List ℕ) (known fresh : List (List ℕ)) → is_in n fresh ≡ true → unknown (known ++ fresh) n ≡ []
 is-taken n known fresh a = cond-true (is_in n (known ++ fresh)) [] (n ∷ []) (in_both n known fresh ∙ or_right (is_in n known) (is_in n fresh) a)
-
--- what is left to be taken in
-pub new-next : (known fresh : List (List ℕ)) (n : List ℕ) (ns : List (List ℕ)) →
-    fresh ++ new_names (known ++ fresh) (n ∷ ns) ≡ (fresh ++ unknown (known ++ fresh) n) ++ new_names (known ++ (fresh ++ unknown (known ++ fresh) n)) ns
-new-next known fresh n ns =
-    sym (append_assoc fresh (unknown (known ++ fresh) n) (new_names ((known ++ fresh) ++ unknown (known ++ fresh) n) ns)) ∙
-    ap (λ (xs : List (List ℕ)). (fresh ++ unknown (known ++ fresh) n) ++ new_names xs ns) (append_assoc known fresh (unknown (known ++ fresh) n))
-
--- those that are taken in, with the new ones among what is left
-abbrev pub together : List (List ℕ) → List (List ℕ) → List (List ℕ) → List (List ℕ)
-together known fresh ns = fresh ++ new_names (known ++ fresh) ns
-
-pub taken_next : (known fresh after : List (List ℕ)) (n : List ℕ) (ns : List (List ℕ)) → after ≡ fresh ++ unknown (known ++ fresh) n → together known after ns ≡ together known fresh (n ∷ ns)
-taken_next known fresh after n ns e = ap (λ (xs : List (List ℕ)). together known xs ns) e ∙ sym (new-next known fresh n ns)
-
-pub together-none : (known ns : List (List ℕ)) → together known [] ns ≡ new_names known ns
-together-none known ns = ap (λ (xs : List (List ℕ)). new_names xs ns) (append-nil known)
-
--- with nothing left, all are taken in
-pub together-all : (known fresh : List (List ℕ)) (xs : List (Bor (List ℕ))) (k : ℕ) → length xs ≤ k → fresh ≡ together known fresh (texts (drop k xs))
-together-all known fresh xs k h = sym (append-nil fresh) ∙ sym (at_drop_all (λ (ys : List (Bor (List ℕ))). together known fresh (texts ys)) xs k h)
 
 -- Ids ----------------------------------------------------------------------------------------------------------------------
 

@@ -1,5 +1,5 @@
 -- What a note's call means: names by their places in some bytes, and when it is refused. Assumes nothing.
-use Rattle.std.specs.Prelude.{ℕ, ◌+◌, Bool, not, List, [], ◌∷◌, length, Ok, Err, Option, Result, nat_lt}
+use Rattle.std.specs.Prelude.{ℕ, ◌+◌, Bool, not, List, [], ◌∷◌, length, Option, nat_lt}
 use Rattle.terms.specs.declared.Place.{Place}
 use Rattle.terms.specs.declared.Refusal.{Refusal}
 use Rattle.terms.specs.declared.Refusal.TheVariants.{Outside, NotName}
@@ -18,8 +18,3 @@ place_fault bytes i p after = refuse (Outside i) (outside bytes p) (refuse (NotN
 abbrev pub name_fault : List ℕ → ℕ → List Place → Option Refusal → Option Refusal
 name_fault bytes i [] after = after
 name_fault bytes i (p ∷ ps) after = place_fault bytes i p (name_fault bytes (i + 1) ps after)
-
--- whether it was refused, whatever was answered
-abbrev pub checked : {A : Type 0} → Result A Refusal → Result (Unit {0}) Refusal
-checked (Ok x) = Ok tt
-checked (Err f) = Err f

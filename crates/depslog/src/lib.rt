@@ -14,7 +14,6 @@ mod recompacting;
 mod recompaction;
 mod replacing;
 mod sink;
-mod told;
 
 pub use log::Log;
 pub use opened::Opened;

@@ -5,7 +5,7 @@ ghost use Rattle.depslog.specs.NoteCall.{NotedLog, WrittenOn};
 
 use super::added::Added;
 use super::log::Log;
-use super::names::told;
+use super::names::check_names;
 use super::sink::Live;
 use medium::{Fault, Medium, fits};
 use notes::{Given, is_unchanged};
@@ -33,11 +33,12 @@ impl<M: Medium> Log<M> {
         if note.inputs.len() > 64 {
             return Err(Refusal::TooManyInputs);
         }
-        let told = told(note)?;
+        check_names(note)?;
         if is_unchanged(&self.table, note) {
             return Ok(());
         }
-        let added = Added::to(&self.table, &told);
+        let mut added = Added::none();
+        added.to(&self.table, note);
         if added.first + added.names.as_slice().len() > 256 {
             return Err(Refusal::TooManyPaths);
         }

@@ -7,34 +7,32 @@ ghost use Rattle.image.specs.Tables.{bare};
 ghost use Rattle.image.specs.Learning.{view};
 ghost use Rattle.notes.specs.Notes.{notes_bytes};
 ghost use Rattle.notes.specs.Compacting.{entries_of, compact_bytes, compact_table};
-ghost use Rattle.depslog.specs.Adding.{note_told};
+ghost use Rattle.depslog.specs.Adding.{Adds};
 ghost use Rattle.depslog.specs.Drafting.{DraftedAll, note_at};
 ghost use Rattle.depslog.specs.Replacing.{InPlace};
 
 use super::added::Added;
 use super::replacing::{Contents, replace};
 use super::sink::{Draft, Sink};
-use super::told::Told;
 use image::{DepsEntry, DepsTable, HEADER};
 use medium::{Fault, Medium};
 use notes::name_of;
-use terms::Few;
 
-// The note that tells the entry of the output with an id.
-fn told<'a>(from: &'a DepsTable, id: usize, entry: &DepsEntry) -> Told<'a>
+// What the note that tells the entry of the output with an id adds to what `into` knows.
+fn add_entry<'a>(
+    added: &mut Added<'a>,
+    into: &DepsTable,
+    from: &'a DepsTable,
+    id: usize,
+    entry: &DepsEntry,
+)
     requires id { id < length (view from.now).names }
     requires ids { every (λ i. nat_lt i (length (view from.now).names)) (entry_of entry.now).inputs ≡ true }
-    ensures { note_told result ≡ note_at (view from.now) id (entry_of entry.now) }
+    ensures { Adds (view into.now) (note_at (view from.now) id (entry_of entry.now)) added.new }
 {
-    let output = name_of(from, id);
-    let mut inputs = Few::new(output);
+    added.begin(into, name_of(from, id), entry.mtime());
     for input in entry.inputs() {
-        inputs.push(name_of(from, *input as usize)).unwrap();
-    }
-    Told {
-        output,
-        mtime: entry.mtime(),
-        inputs,
+        added.extend(into, name_of(from, *input as usize));
     }
 }
 
@@ -43,10 +41,11 @@ fn count_entries(from: &DepsTable, into: &mut DepsTable) -> usize
     ensures { result ≡ length (compact_bytes (view from.now)) }
 {
     into.clear();
+    let mut added = Added::none();
     let mut total = HEADER.len();
     for id in 0..from.path_count() {
         if let Some(entry) = from.entry(id) {
-            let added = Added::to(into, &told(from, id, &entry));
+            add_entry(&mut added, into, from, id, &entry);
             total += added.length();
             added.learn(into);
         }
@@ -68,9 +67,10 @@ fn draft_entries<M: Medium>(
     ensures known { OnOk result (view into.new ≡ compact_table (view from.now)) }
 {
     into.clear();
+    let mut added = Added::none();
     for id in 0..from.path_count() {
         if let Some(entry) = from.entry(id) {
-            let added = Added::to(into, &told(from, id, &entry));
+            add_entry(&mut added, into, from, id, &entry);
             added.put(draft, medium)?;
             added.learn(into);
         }

@@ -1,12 +1,11 @@
-use Rattle.std.proofs.Common.{◌≡◌, ◌+◌, ◌<◌, Some, None, length, get_or, sym, ap, ◌∙◌, subst, arith}
+use Rattle.std.proofs.Common.{◌≡◌, ◌+◌, ◌<◌, Some, None, length, get_or, sym, ap, ◌∙◌, arith}
 use Rattle.std.specs.Option.{option_map}
 use Rattle.std.proofs.lemmas.List.{length-append}
 use Rattle.image.specs.Tables.{Table}
 use Rattle.image.specs.View.{entry_of}
 use Rattle.image.specs.Learning.{view}
 use Rattle.image.proofs.Learned.{view-kept}
-use Rattle.notes.specs.Notes.{Note, note_bytes, notes_bytes}
-use Rattle.depslog.specs.Adding.{Adds}
+use Rattle.notes.specs.Notes.{note_bytes, notes_bytes}
 use Rattle.depslog.specs.Drafting.{note_at}
 use Rattle.depslog.proofs.Addings.{bytes_same, learned_same, may_learn}
 use Rattle.depslog.proofs.Telling.{rest_of, left-first, left-none, left-some, first-left, bytes-some, bytes-none}
@@ -29,7 +28,7 @@ learn-requires c =
     let x = entry_of c.in-Some.entry in
     let e : Some x ≡ get_or t.entries id None = ap (option_map entry_of) (sym c.in-Some.is) ∙ c.entry.ensures in
     let f = first-left t u k id h c.loop-id.invariant.0 x e in
-    may_learn u (note_at t id x) c.to-added.result (subst (λ (n : Note). Adds u n c.to-added.result) c.told.ensures c.to-added.ensures) f.1 f.0
+    may_learn u (note_at t id x) c.add_entry.new.added c.add_entry.ensures f.1 f.0
 
 pub loop-id-preserved : goal.loop-id-preserved
 loop-id-preserved c =
@@ -45,8 +44,8 @@ loop-id-preserved c =
           let x = entry_of w.in-Some.entry in
           let e : Some x ≡ get_or t.entries id None = ap (option_map entry_of) (sym w.in-Some.is) ∙ c.entry.ensures in
           let f = first-left t u k id h l x e in
-          let a = w.to-added.result in
-          let d = subst (λ (n : Note). Adds u n a) w.told.ensures w.to-added.ensures in
+          let a = w.add_entry.new.added in
+          let d = w.add_entry.ensures in
           let g = ap view w.into-is ∙ w.learn.ensures ∙ learned_same u (note_at t id x) a d f.1 in
           let b = ap length (bytes-some t u k id h l x v g e) ∙ length-append (note_bytes u (note_at t id x)) (notes_bytes v (rest_of t (id + 1))) in
           let n = w.length-total.ensures.value ∙ ap length (bytes_same u (note_at t id x) a d f.1) in

@@ -1,4 +1,4 @@
-use Rattle.std.proofs.Common.{◌≡◌, ℕ, ◌+◌, ◌<◌, ◌≤◌, List, [], length, get_or, Some, None, sym, refl, ap, ◌∙◌, subst, arith}
+use Rattle.std.proofs.Common.{◌≡◌, ℕ, ◌+◌, ◌<◌, ◌≤◌, List, [], length, get_or, Some, None, sym, refl, ap, ◌∙◌, arith}
 use Rattle.std.specs.Option.{option_map}
 use Rattle.std.proofs.lemmas.Result.{err_from_is_err_and}
 use Rattle.medium.specs.State.{all as all-of, with_drafted}
@@ -8,7 +8,7 @@ use Rattle.image.specs.Learning.{view}
 use Rattle.image.proofs.Learned.{view-kept}
 use Rattle.notes.specs.Notes.{Note, note_bytes, note_table, notes_bytes, notes_table}
 use Rattle.notes.specs.Compacting.{entries_of}
-use Rattle.depslog.specs.Adding.{Adds, bytes_added}
+use Rattle.depslog.specs.Adding.{bytes_added}
 use Rattle.depslog.specs.Drafting.{note_at}
 use Rattle.depslog.proofs.Addings.{bytes_same, learned_same, may_learn}
 use Rattle.depslog.proofs.Drafts.{left-on, left-room, left_broke, room-first, piece_drafted, all_drafted}
@@ -36,8 +36,8 @@ put-requires g c =
     let e : Some x ≡ get_or t.entries id None = ap (option_map entry_of) (sym c.in-Some.is) ∙ c.entry.ensures in
     let l = c.loop-id.invariant.0 in
     let f = first-left t u k id h l x e in
-    let a = c.to-added.result in
-    let d = subst (λ (n : Note). Adds u n a) c.told.ensures c.to-added.ensures in
+    let a = c.add_entry.new.added in
+    let d = c.add_entry.ensures in
     let b = bytes-some t u k id h l x (note_table u (note_at t id x)) refl e in
     let n : Note = note_at t id x in
     let rest : List ℕ = notes_bytes u (rest_of t id) in
@@ -51,7 +51,7 @@ returns-in_err-put g c =
     let st = g.M.Medium.state in
     let p = err_from_is_err_and c.from_residual.result c.from_residual.ensures.1 in
     rw (p.1, p.2) (record {
-      drafted = left_broke _ (st c.loop-id.medium) _ (st c.args.medium.now) c.loop-id.invariant.1 (bytes_added c.to-added.result) c.in_err-put.field-0.0 (st c.put.new.medium) c.requires.on c.in_err-put.ensures;
+      drafted = left_broke _ (st c.loop-id.medium) _ (st c.args.medium.now) c.loop-id.invariant.1 (bytes_added c.add_entry.new.added) c.in_err-put.field-0.0 (st c.put.new.medium) c.requires.on c.in_err-put.ensures;
       known = tt;
     })
 
@@ -65,7 +65,7 @@ learn-requires g c =
     let x = entry_of c.in-Some.entry in
     let e : Some x ≡ get_or t.entries id None = ap (option_map entry_of) (sym c.in-Some.is) ∙ c.entry.ensures in
     let f = first-left t u k id h c.loop-id.invariant.0 x e in
-    may_learn u (note_at t id x) c.to-added.result (subst (λ (n : Note). Adds u n c.to-added.result) c.told.ensures c.to-added.ensures) f.1 f.0
+    may_learn u (note_at t id x) c.add_entry.new.added c.add_entry.ensures f.1 f.0
 
 pub loop-id-preserved : goal.loop-id-preserved
 loop-id-preserved g c =
@@ -85,8 +85,8 @@ loop-id-preserved g c =
           let x = entry_of w.in-Some.entry in
           let e : Some x ≡ get_or t.entries id None = ap (option_map entry_of) (sym w.in-Some.is) ∙ c.entry.ensures in
           let f = first-left t u k id h l x e in
-          let a = w.to-added.result in
-          let n = subst (λ (y : Note). Adds u y a) w.told.ensures w.to-added.ensures in
+          let a = w.add_entry.new.added in
+          let n = w.add_entry.ensures in
           let d = ap view w.into-is ∙ w.learn.ensures ∙ learned_same u (note_at t id x) a n f.1 in
           let b : m ≡ with_drafted (note_bytes u (note_at t id x)) s = ap st w.medium-is ∙ w.in_ok-put.ensures.after ∙ ap (λ (bs : List ℕ). with_drafted bs s) (bytes_same u (note_at t id x) a n f.1) in
           (left-some t u k id h l x v d e, piece_drafted _ _ _ _ s m z (bytes-some t u k id h l x v d e) c.loop-id.invariant.1 b)

@@ -63,7 +63,7 @@ impl<'a> Added<'a> {
         ensures count { length (items self.new.names) ≤ 1 }
     {
         self.first = table.path_count();
-        self.names = Few::new(output);
+        self.names.clear();
         self.output = take_in(&mut self.names, table, output);
         self.entry = DepsEntry::new(mtime);
     }

@@ -29,6 +29,12 @@ impl<T: Copy, const N: usize> Few<T, N> {
         }
     }
 
+    pub fn clear(&mut self)
+        ensures { items self.new ≡ [] }
+    {
+        self.len = 0;
+    }
+
     pub fn as_slice(&self) -> &[T]
         ensures items { result.now ≡ items self.now }
         ensures few { length result.now ≤ N }
